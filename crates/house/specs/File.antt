@@ -1,0 +1,35 @@
+-- What every house file begins with: "All multi-byte numbers are big-endian. Byte 0 is the version, 1. Bytes 1 and 2 are the length of the rest."
+use Prim.Native.Nat.{ℕ, _+_, _-_, _*_, _/_, _%_}
+use mathlib.Core.List.{List, [], _∷_, _++_}
+use mathlib.Core.Bool.{not}
+use lib.Dec.{eqb, ltb}
+use lib.ListN.{length, getD}
+use Rattle.shapes.specs.Refusals.{Rule, when}
+use Rattle.house.specs.declared.refusal.Refusal.{Refusal}
+use Rattle.house.specs.declared.refusal.Refusal.the-variants.{Version, Length}
+
+abbrev pub version : ℕ
+version = 1
+
+-- where the rest begins
+abbrev pub restAt : ℕ
+restAt = 3
+
+-- two bytes as one number, the higher first
+abbrev pub twoBytes : List ℕ → ℕ → ℕ
+twoBytes file at = getD file at 0 * 256 + getD file (at + 1) 0
+
+-- the order for files: "LENGTH for under 3 bytes, VERSION, LENGTH", then what the file holds
+unfoldable pub fileRules : List ℕ → List (Rule Refusal)
+fileRules file =
+    when (ltb (length file) restAt) Length
+    ∷ when (not (eqb (getD file 0 0) version)) Version
+    ∷ when (not (eqb (twoBytes file 1) (length file - restAt))) Length ∷ []
+
+-- the first three bytes before a rest of so many
+unfoldable pub fileHead : ℕ → List ℕ
+fileHead n = version ∷ n / 256 ∷ n % 256 ∷ []
+
+-- the file with a rest
+unfoldable pub fileOf : List ℕ → List ℕ
+fileOf rest = fileHead (length rest) ++ rest

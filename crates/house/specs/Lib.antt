@@ -1,0 +1,5 @@
+pub mod Refusal
+pub mod File
+pub mod Table
+pub mod Cases
+pub mod Retest

@@ -1,0 +1,46 @@
+-- The paper's number of each refusal and what it carries (document 01, "Refusal numbers"), and what a list of rules makes a call answer.
+use Prim.Native.Nat.{ℕ}
+use mathlib.Core.List.{List}
+use Rattle.shapes.specs.Refusals.{Rule, Verdict, fine, refused, verdict}
+use Rattle.house.specs.declared.refusal.Refusal.{Refusal}
+use Rattle.house.specs.declared.refusal.Refusal.the-variants.{Short, Version, Length, Size, Cell, Step, Full, Slot, Damaged, Record, Number}
+use Rattle.house.specs.declared.refusal.Checked as Checked-type
+use Rattle.house.specs.declared.refusal.Answer as Answer-type
+
+-- the number of a refusal
+abbrev pub numberOf : Refusal → ℕ
+numberOf (Short n) = 1
+numberOf Version = 2
+numberOf Length = 3
+numberOf Size = 4
+numberOf (Cell c) = 5
+numberOf Step = 6
+numberOf Full = 7
+numberOf Slot = 8
+numberOf Damaged = 9
+numberOf Record = 10
+numberOf Number = 11
+
+-- "A refusal carries 0 beside its number, except CELL's cell, and SHORT .. the count of entries or bytes needed"
+abbrev pub carriedOf : Refusal → ℕ
+carriedOf (Short n) = n
+carriedOf Version = 0
+carriedOf Length = 0
+carriedOf Size = 0
+carriedOf (Cell c) = c
+carriedOf Step = 0
+carriedOf Full = 0
+carriedOf Slot = 0
+carriedOf Damaged = 0
+carriedOf Record = 0
+carriedOf Number = 0
+
+-- a call that only checks answers what its rules say
+abbrev pub checked : Verdict Refusal → Checked-type.Checked
+checked fine = Checked-type.the-variants.Fine
+checked (refused r) = Checked-type.the-variants.Refused r
+
+-- a call that answers a number answers it where its rules say nothing
+abbrev pub answered : Verdict Refusal → ℕ → Answer-type.Answer
+answered fine n = Answer-type.the-variants.Done n
+answered (refused r) n = Answer-type.the-variants.Refused r

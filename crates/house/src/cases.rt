@@ -1,0 +1,146 @@
+// The record file (document 01, "House files"): zero to 64 cases, each a length byte, the inputs and the observed outputs.
+use crate::file::REST;
+use crate::file::check_file;
+use crate::refusal::Checked;
+use crate::refusal::Refusal;
+use machine::case::is_case;
+use machine::head::Head;
+use machine::head::is_within;
+use machine::replay::Replay;
+use shapes::byte;
+use shapes::put;
+ghost use mathlib.Core.Path.{_≡_};
+ghost use Prim.Native.Nat.{_+_, _*_, _≤_, _<_};
+ghost use lib.ListN.{length};
+ghost use Rattle.shapes.specs.Edit.{filled};
+ghost use Rattle.shapes.specs.Refusals.{verdict};
+ghost use Rattle.machine.specs.Limits.{stepsMost};
+ghost use Rattle.house.specs.Refusal.{checked};
+ghost use Rattle.house.specs.File.{restAt};
+ghost use Rattle.house.specs.Cases.{caseBytes, caseFits, caseEnd, countIn, recordRead, caseRules, stepAt};
+
+// A place in a record file, between two cases.
+pub struct Cursor {
+    pub at: usize,
+}
+
+// What stands at a cursor: a case, with the place of its inputs, its steps and the cursor after it; or nothing more; or no case.
+pub enum Step {
+    Case {
+        inputs: usize,
+        steps: usize,
+        next: Cursor,
+    },
+    End,
+    Broken,
+}
+
+// How many cases a record holds, or that its cases are broken.
+pub enum Counted {
+    Cases(usize),
+    Broken,
+}
+
+// What a record file holds: so many cases, or the refusal.
+pub enum RecordFile {
+    Record(usize),
+    Refused(Refusal),
+}
+
+// Whether a whole case stands at a place.
+fn is_whole(file: &[u8], at: usize) -> bool
+    requires { ⌜ at < length (now file) ⌝ }
+    ensures { λ r. ⌜ r ≡ caseFits (now (file .entry)) at ⌝ }
+{
+    let steps = byte(file, at);
+    is_within(steps, Replay::STEPS) & (2 * steps < file.len() - at)
+}
+
+impl Cursor {
+    pub const CASES: usize = 64;
+
+    // Before the first case.
+    pub fn start() -> Cursor
+        ensures { λ r. ⌜ r .at ≡ restAt ⌝ }
+    {
+        Cursor { at: REST }
+    }
+
+    // What stands at the cursor.
+    pub fn step(self, file: &[u8]) -> Step
+        ensures { λ r. ⌜ r ≡ stepAt (now (file .entry)) (self .at) ⌝ }
+    {
+        let at = self.at;
+        if file.len() <= at {
+            return Step::End;
+        }
+        if !is_whole(file, at) {
+            return Step::Broken;
+        }
+        let steps = byte(file, at);
+        Step::Case {
+            inputs: at + 1,
+            steps,
+            next: Cursor {
+                at: at + 1 + 2 * steps,
+            },
+        }
+    }
+}
+
+// How many cases stand in a record file.
+fn count_cases(file: &[u8]) -> Counted
+    ensures { λ r. ⌜ r ≡ countIn (now (file .entry)) ⌝ }
+{
+    let mut at = REST;
+    let mut count = 0;
+    while at < file.len() {
+        if count == Cursor::CASES {
+            return Counted::Broken;
+        }
+        if !is_whole(file, at) {
+            return Counted::Broken;
+        }
+        at = at + 1 + 2 * byte(file, at);
+        count += 1;
+    }
+    Counted::Cases(count)
+}
+
+// The count of the cases of a record file, or its refusal, from any bytes.
+pub fn read_record(file: &[u8]) -> RecordFile
+    ensures { λ r. ⌜ r ≡ recordRead (now (file .entry)) ⌝ }
+{
+    let found = check_file(file);
+    if let Checked::Refused(refusal) = found {
+        return RecordFile::Refused(refusal);
+    }
+    let counted = count_cases(file);
+    let Counted::Cases(count) = counted else {
+        return RecordFile::Refused(Refusal::Record);
+    };
+    RecordFile::Record(count)
+}
+
+// Writes a case at a place, and answers the place after it.
+pub fn put_case(out: &mut [u8], at: usize, inputs: &[u8], outputs: &[u8]) -> usize
+    requires { ⌜ (length (now inputs) ≤ stepsMost) × (length (now outputs) ≡ length (now inputs)) ⌝ }
+    requires { ⌜ at + 1 + 2 * length (now inputs) ≤ length (now out) ⌝ }
+    ensures { λ r. ⌜ (r ≡ at + 1 + 2 * length (now (inputs .entry))) × (now (out .exit) ≡ filled (now (out .entry)) at (caseBytes (record { inputs = now (inputs .entry); outputs = now (outputs .entry) }))) ⌝ }
+{
+    let steps = inputs.len();
+    out[at] = steps as u8;
+    put(out, at + 1, inputs);
+    put(out, at + 1 + steps, outputs);
+    at + 1 + 2 * steps
+}
+
+// What is wrong with a case against a head.
+pub fn check_case(head: Head, inputs: &[u8], outputs: &[u8]) -> Checked
+    ensures { λ r. ⌜ r ≡ checked (verdict (caseRules head (record { inputs = now (inputs .entry); outputs = now (outputs .entry) }))) ⌝ }
+{
+    if !is_case(head, inputs, outputs) {
+        return Checked::Refused(Refusal::Step);
+    }
+    Checked::Fine
+}

@@ -1,0 +1,8 @@
+pub mod Numbers
+pub mod Moves
+pub mod Faults
+pub mod Cases
+pub mod Run
+pub mod Replayed
+pub mod Answers
+pub mod Examples

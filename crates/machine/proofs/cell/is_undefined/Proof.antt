@@ -1,0 +1,29 @@
+-- `machine::cell::is_undefined` meets its contract: the two bytes are those of the cell.
+-- Assumes nothing.
+use borrow.Author.Needs.{needs}
+use Rattle.machine.specs.Cell.{undefined}
+use Rattle.machine.proofs.cell.is_undefined.Statement.{statement}
+use Rattle.machine.proofs.cell.is_undefined.Tie as tie
+
+mul-byte : tie.Need-mul-byte
+mul-byte c = search needs
+
+byte-requires : tie.Need-byte-requires
+byte-requires c κs = search needs
+
+mul-byte-2 : tie.Need-mul-byte-2
+mul-byte-2 c = search needs
+
+add-byte : tie.Need-add-byte
+add-byte c = search needs
+
+byte-requires-2 : tie.Need-byte-requires-2
+byte-requires-2 c κs = search needs
+
+returns : tie.Need-returns
+unfolding undefined
+returns c = rw (c .before .byte .ensures .0, c .byte2 .ensures .0)
+
+pub is-undefined-spec : {M : Type 1} → statement M
+is-undefined-spec =
+    tie.close (tie.spec mul-byte byte-requires mul-byte-2 add-byte byte-requires-2 returns)

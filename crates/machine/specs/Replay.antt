@@ -1,0 +1,43 @@
+-- The replay of a case: state, step reached and symptoms so far, one step after the other (document 01, "Machine").
+use Prim.Native.Nat.{ℕ, _+_, _<_, _≤_}
+use mathlib.Core.List.{List, [], _∷_}
+use mathlib.Core.Bool.{cond}
+use lib.Dec.{eqb}
+use Rattle.machine.specs.Limits.{stepsMost}
+use Rattle.machine.specs.Machine.{Machine, initial, cellAt}
+use Rattle.machine.specs.Run.{agrees}
+use Rattle.machine.specs.declared.head.Head.{Head}
+use Rattle.machine.specs.declared.cell.Move.{Move}
+use Rattle.machine.specs.declared.replay.Replay.{Replay}
+
+-- before the first step: the initial state, no symptom
+unfoldable pub fresh : Replay
+fresh = record { state = initial; step = 0; symptoms = 0; first = stepsMost }
+
+-- after a step whose observed output agrees
+unfoldable pub passed : Replay → Move → Replay
+passed r to = record { state = to .next; step = r .step + 1; symptoms = r .symptoms; first = r .first }
+
+-- after one whose output does not: a symptom more, and the first unless there was one
+unfoldable pub failed : Replay → Move → Replay
+failed r to =
+    record { state = to .next; step = r .step + 1; symptoms = r .symptoms + 1; first = cond (eqb (r .symptoms) 0) (r .step) (r .first) }
+
+-- the replay after the step that the machine moved and y was observed
+unfoldable pub stepped : Replay → Move → ℕ → Replay
+stepped r to y = cond (agrees y (to .output)) (passed r to) (failed r to)
+
+-- the replay after the machine took input i and y was observed
+unfoldable pub taken : Machine → Replay → ℕ → ℕ → Replay
+taken M r i y = stepped r (M .does (cellAt M (r .state) i)) y
+
+-- the replay after the steps of a case
+unfoldable pub replayed : Machine → Replay → List ℕ → List ℕ → Replay
+replayed M r [] ys = r
+replayed M r (i ∷ is) [] = r
+replayed M r (i ∷ is) (y ∷ ys) = replayed M (taken M r i y) is ys
+
+-- what is known of a replay on its way
+pub record ReplayIn (h : Head) (r : Replay) : Type 0 where
+  pub state-in : r .state < h .states
+  pub few-symptoms : r .symptoms ≤ r .step

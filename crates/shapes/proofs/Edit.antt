@@ -1,0 +1,126 @@
+-- What `edit` and `filled` change, what they leave, and how a loop that goes up by one makes them.
+-- Assumes nothing.
+use Prim.Native.Nat.{ℕ, zero, suc, _+_, _≤_, _<_}
+use mathlib.Core.Path.{_≡_, refl}
+use mathlib.Core.Logic.{_⊎_, inl, inr, _≢_}
+use mathlib.Core.List.{List, [], _∷_, _++_}
+use native.Mathlib.Numerals.{add-one}
+use native.Mathlib.Nat.{eq-or-lt-of-le, add-zero, add-suc, add-assoc}
+use native.Mathlib.Omega.{arith}
+use lib.ListN.{length, getD, set, take, drop, length-set, length-append, length-take, length-drop, List·getD-append}
+use lib.Seq.{getD-set-same, getD-set-other, getD-take, getD-drop, getD-append-add, ext-getD}
+use Rattle.shapes.specs.Edit.{edit, filled}
+
+module _ (f : ℕ → ℕ → ℕ) (at : ℕ) where
+  -- a loop's start: nothing is changed
+  pub edit-none : (l : List ℕ) → edit f at 0 l ≡ l
+  unfolding edit
+  edit-none l = refl
+
+  -- a loop's turn: one more is stored
+  pub edit-more : (n : ℕ) (l : List ℕ) → edit f at (n + 1) l ≡ set (edit f at n l) (at + n) (f n (getD l (at + n) 0))
+  unfolding edit
+  edit-more n l = rw add-one
+
+  -- the length stays
+  pub length-edit : (n : ℕ) (l : List ℕ) → length (edit f at n l) ≡ length l
+  unfolding edit
+  length-edit zero l = refl
+  length-edit (suc n) l = let e = length-edit n l in rw (length-set, e)
+
+  -- what stands before the part stays
+  pub edit-out-below : (n : ℕ) (l : List ℕ) (j : ℕ) → j < at → getD (edit f at n l) j 0 ≡ getD l j 0
+  unfolding edit
+  edit-out-below zero l j h = refl
+  edit-out-below (suc n) l j h =
+      let o : j ≢ at + n = λ e. omega arith in
+      let e = edit-out-below n l j h in rw (getD-set-other, e)
+
+  -- what stands after the part stays
+  pub edit-out-above : (n : ℕ) (l : List ℕ) (j : ℕ) → at + n ≤ j → getD (edit f at n l) j 0 ≡ getD l j 0
+  unfolding edit
+  edit-out-above zero l j h = refl
+  edit-out-above (suc n) l j h =
+      let o : j ≢ at + n = λ e. omega arith in
+      let e = edit-out-above n l j (omega arith) in rw (getD-set-other, e)
+
+  -- what a loop reads before its next store is the old number
+  pub edit-next : (n : ℕ) (l : List ℕ) → getD (edit f at n l) (at + n) 0 ≡ getD l (at + n) 0
+  edit-next n l = edit-out-above n l (at + n) (omega arith)
+
+  -- what stands in the part is changed
+  pub edit-in : (n : ℕ) (l : List ℕ) (i : ℕ) → i < n → at + i < length l → getD (edit f at n l) (at + i) 0 ≡ f i (getD l (at + i) 0)
+  unfolding edit
+  edit-in zero l i h s = absurd (omega arith)
+  edit-in (suc n) l i h s = go (eq-or-lt-of-le (omega arith)) (edit-in n l i)
+    where
+      go : (i ≡ n) ⊎ (i < n) → (i < n → at + i < length l → getD (edit f at n l) (at + i) 0 ≡ f i (getD l (at + i) 0))
+          → getD (set (edit f at n l) (at + n) (f n (getD l (at + n) 0))) (at + i) 0 ≡ f i (getD l (at + i) 0)
+      go (inl e) rest =
+          let h : at + n < length (edit f at n l) = omega (arith, length-edit n l) in rw (e, getD-set-same)
+      go (inr p) rest =
+          let o : at + i ≢ at + n = λ e. omega arith in
+          let e = rest p s in rw (getD-set-other, e)
+
+  -- two changes that agree on the part are one
+  edit-same : (g : ℕ → ℕ → ℕ) (n : ℕ) (l : List ℕ) → ((i x : ℕ) → i < n → f i x ≡ g i x) → edit f at n l ≡ edit g at n l
+  unfolding edit
+  edit-same g zero l h = refl
+  edit-same g (suc n) l h =
+      let e = edit-same g n l (λ i x s. h i x (omega arith)) in
+      let d = h n (getD l (at + n) 0) (omega arith) in rw (e, d)
+
+  -- a part changed, and then the part right after it, is one part changed
+  pub edit-compose : (m n : ℕ) (l : List ℕ) → edit (λ i. f (m + i)) (at + m) n (edit f at m l) ≡ edit f at (m + n) l
+  unfolding edit
+  edit-compose m zero l = rw add-zero
+  edit-compose m (suc n) l =
+      let e = edit-compose m n l in
+      let d = edit-out-above m l (at + m + n) (omega arith) in rw (add-suc, e, d, add-assoc)
+
+-- the length stays
+pub length-filled : (l : List ℕ) (at : ℕ) (v : List ℕ) → length (filled l at v) ≡ length l
+unfolding filled
+length-filled l at v = length-edit _ at (length v) l
+
+-- what stands before the place stays
+pub filled-below : (l : List ℕ) (at : ℕ) (v : List ℕ) (j : ℕ) → j < at → getD (filled l at v) j 0 ≡ getD l j 0
+unfolding filled
+filled-below l at v j h = edit-out-below (λ i old. getD v i 0) at (length v) l j h
+
+-- what stands after what was written stays
+pub filled-above : (l : List ℕ) (at : ℕ) (v : List ℕ) (j : ℕ) → at + length v ≤ j → getD (filled l at v) j 0 ≡ getD l j 0
+unfolding filled
+filled-above l at v j h = edit-out-above (λ i old. getD v i 0) at (length v) l j h
+
+-- what was written stands there
+pub filled-in : (l : List ℕ) (at : ℕ) (v : List ℕ) (i : ℕ) → i < length v → at + i < length l → getD (filled l at v) (at + i) 0 ≡ getD v i 0
+unfolding filled
+filled-in l at v i h s = edit-in (λ i old. getD v i 0) at (length v) l i h s
+
+-- reading back what was written
+pub filled-take : (l : List ℕ) (at : ℕ) (v : List ℕ) → at + length v ≤ length l → take (length v) (drop at (filled l at v)) ≡ v
+filled-take l at v h = ext-getD 0 _ _ size each
+  where
+    size : length (take (length v) (drop at (filled l at v))) ≡ length v
+    size = simp (length-take, length-drop, length-filled) (omega arith)
+
+    each : (i : ℕ) → i < length (take (length v) (drop at (filled l at v))) → getD (take (length v) (drop at (filled l at v))) i 0 ≡ getD v i 0
+    each i s =
+        let s′ : i < length v = omega (arith, size) in
+        let t : at + i < length l = omega arith in rw (getD-take, getD-drop, filled-in)
+
+-- a list written, and then another right after it, is both written as one
+pub filled-append : (l : List ℕ) (at : ℕ) (v w : List ℕ) → filled (filled l at v) (at + length v) w ≡ filled l at (v ++ w)
+unfolding filled
+filled-append l at v w = rw (length-append, ← edit-compose both at (length v) (length w) l, first, then)
+  where
+    both : ℕ → ℕ → ℕ
+    both i old = getD (v ++ w) i 0
+
+    first : edit (λ i old. getD v i 0) at (length v) l ≡ edit both at (length v) l
+    first = edit-same (λ i old. getD v i 0) at both (length v) l λ i x h. rw List·getD-append
+
+    then : edit (λ i old. getD w i 0) (at + length v) (length w) (edit both at (length v) l)
+        ≡ edit (λ i. both (length v + i)) (at + length v) (length w) (edit both at (length v) l)
+    then = edit-same (λ i old. getD w i 0) (at + length v) (λ i. both (length v + i)) (length w) _ λ i x h. rw getD-append-add

@@ -1,0 +1,5 @@
+pub mod Tests
+pub mod First
+pub mod Edit
+pub mod Refusals
+pub mod Answers

@@ -1,0 +1,4 @@
+pub mod First
+pub mod Edit
+pub mod Refusals
+pub mod OneAnswer

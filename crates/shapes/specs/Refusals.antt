@@ -1,0 +1,35 @@
+-- Ordered refusals: what a call refuses, as one list of rules in order.
+use mathlib.Core.Path.{_≡_}
+use mathlib.Core.Bool.{Bool, true, false}
+use mathlib.Core.Logic.{_⊎_}
+use mathlib.Core.List.{List, [], _∷_}
+
+-- a rule of a call: refuse with r when the test is true
+pub data Rule (R : Type 0) : Type 0 where
+  when : Bool → R → Rule R
+
+-- what a list of rules says: fine, or refused with r
+pub data Verdict (R : Type 0) : Type 0 where
+  fine : Verdict R
+  refused : R → Verdict R
+
+-- one rule: refused with r where the test is true, else what the rest says
+unfoldable pub pick : {R : Type 0} → Bool → R → Verdict R → Verdict R
+pick true r rest = refused r
+pick false r rest = rest
+
+-- the first rule whose test is true refuses; else fine
+unfoldable pub verdict : {R : Type 0} → List (Rule R) → Verdict R
+unfolding pick
+verdict [] = fine
+verdict (when t r ∷ l) = pick t r (verdict l)
+
+-- every rule's test is false
+abbrev pub AllFalse : {R : Type 0} → List (Rule R) → Type 0
+AllFalse [] = Unit {0}
+AllFalse (when t r ∷ l) = (t ≡ false) × AllFalse l
+
+-- the first rule whose test is true is one of r
+abbrev pub RefusedBy : {R : Type 0} → List (Rule R) → R → Type 0
+RefusedBy [] r = ⊥
+RefusedBy (when t q ∷ l) r = ((t ≡ true) × (q ≡ r)) ⊎ ((t ≡ false) × RefusedBy l r)

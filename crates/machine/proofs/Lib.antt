@@ -4,5 +4,6 @@ pub mod Faults
 pub mod Cases
 pub mod Run
 pub mod Replayed
+pub mod Marks
 pub mod Answers
 pub mod Examples

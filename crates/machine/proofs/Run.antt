@@ -80,6 +80,11 @@ pub length-executed : (M : Machine) (is : List ℕ) → length (executed M is) �
 unfolding executed
 length-executed M is = length-path M _ is
 
+-- in the first steps of a case the cells executed are those under the first inputs
+pub prefix-executed : (M : Machine) (is : List ℕ) (t : ℕ) → take t (executed M is) ≡ executed M (take t is)
+unfolding executed
+prefix-executed M is t = prefix-path M _ is t
+
 -- a number's machine is expected to give the specified outputs until the number's cell is first executed ..
 pub expected-until : (h : Head) (cells is : List ℕ) (f t : ℕ) → has (cellOf h f) (take t (executed (specified h cells) is)) ≡ false
     → take t (expected (changed h cells f) is) ≡ take t (expected (specified h cells) is)

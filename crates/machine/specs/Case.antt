@@ -1,5 +1,5 @@
 -- What a case must be to be run against a head (document 01, STEP).
-use Prim.Native.Nat.{ℕ, _≤_}
+use Prim.Native.Nat.{ℕ, _≤_, _<_}
 use mathlib.Core.Path.{_≡_}
 use mathlib.Core.List.{List}
 use mathlib.Core.Bool.{Bool, _&&_, _||_}
@@ -9,6 +9,11 @@ use Rattle.shapes.specs.First.{first}
 use Rattle.machine.specs.Limits.{stepsMost}
 use Rattle.machine.specs.Head.{within}
 use Rattle.machine.specs.declared.head.Head.{Head}
+
+-- a case: its inputs and its observed outputs
+pub record Case : Type 0 where
+  pub inputs : List ℕ
+  pub outputs : List ℕ
 
 -- "an input ≥ k or an observed output ≥ m" at step i
 unfoldable pub badStep : Head → List ℕ → List ℕ → ℕ → Bool
@@ -28,3 +33,7 @@ pub record CaseIn (h : Head) (is ys : List ℕ) : Type 0 where
   pub few-steps : length is ≤ stepsMost
   pub even : length ys ≡ length is
   pub sound : firstBadStep h is ys ≡ length is
+
+-- what is known of inputs that are a head's
+abbrev pub InputsIn : Head → List ℕ → Type 0
+InputsIn h is = (t : ℕ) → t < length is → getD is t 0 < h .inputs

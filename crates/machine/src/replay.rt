@@ -10,13 +10,14 @@ use crate::head::Head;
 use shapes::byte;
 ghost use mathlib.Core.Path.{_≡_};
 ghost use Prim.Native.Nat.{_+_, _*_, _<_, _≤_};
+ghost use lib.ListN.{length};
 ghost use Rattle.machine.specs.Limits.{stepsMost};
-ghost use Rattle.machine.specs.Head.{numbers};
+ghost use Rattle.machine.specs.Head.{cellCount, numbers};
 ghost use Rattle.machine.specs.Cell.{TableIn};
 ghost use Rattle.machine.specs.Machine.{specified};
 ghost use Rattle.machine.specs.Fault.{under, changed};
-ghost use Rattle.machine.specs.Case.{CaseIn};
-ghost use Rattle.machine.specs.Run.{agrees, symptomsOf, reproduces};
+ghost use Rattle.machine.specs.Case.{CaseIn, InputsIn};
+ghost use Rattle.machine.specs.Run.{agrees, executed, marked, symptomsOf, reproduces};
 ghost use Rattle.machine.specs.Replay.{fresh, stepped, taken, ReplayIn};
 
 // The state in which a case begins.
@@ -188,4 +189,23 @@ pub fn is_reproduced(head: Head, cells: &[u8], number: usize, inputs: &[u8], out
 {
     let fault = Fault::numbered(head, number);
     reproduces_under(head, cells, fault.change(head, cells), inputs, outputs)
+}
+
+// Marks each cell that the specified machine executes under the inputs: of what stands there, 0 or 1, it makes 2 or 3.
+pub fn mark_executed(head: Head, cells: &[u8], inputs: &[u8], out: &mut [u8])
+    requires { ⌜ TableIn head (now cells) ⌝ }
+    requires { ⌜ InputsIn head (now inputs) ⌝ }
+    requires { ⌜ cellCount head ≤ length (now out) ⌝ }
+    ensures { λ _. ⌜ now (out .exit) ≡ marked (executed (specified head (now (cells .entry))) (now (inputs .entry))) (now (out .entry)) ⌝ }
+{
+    let mut state = INITIAL;
+    let mut step = 0;
+    while step < inputs.len() {
+        let input = byte(inputs, step);
+        let cell = cell_of(head, state, input);
+        out[cell] = out[cell] % 2 + 2;
+        let to = specified_move(head, cells, state, input);
+        state = to.next;
+        step += 1;
+    }
 }

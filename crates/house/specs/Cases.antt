@@ -5,10 +5,10 @@ use mathlib.Core.List.{List, [], _∷_, _++_}
 use mathlib.Core.Bool.{Bool, true, false, cond, not, _&&_}
 use lib.Dec.{leb}
 use lib.ListN.{length, getD, take, drop}
-use Rattle.shapes.specs.Refusals.{Rule, when, Verdict, fine, refused, verdict}
+use Rattle.shapes.specs.Refusals.{Rule, when, Ruling, fine, refused, ruling}
 use Rattle.machine.specs.Limits.{stepsMost}
 use Rattle.machine.specs.Head.{within}
-use Rattle.machine.specs.Case.{goodCase}
+use Rattle.machine.specs.Case.{Case, goodCase}
 use Rattle.machine.specs.declared.head.Head.{Head}
 use Rattle.house.specs.File.{restAt, fileRules, fileOf}
 use Rattle.house.specs.declared.refusal.Refusal.{Refusal}
@@ -17,11 +17,6 @@ use Rattle.house.specs.declared.cases.Step as Step-type
 use Rattle.house.specs.declared.cases.Counted.{Counted}
 use Rattle.house.specs.declared.cases.Counted.the-variants.{Cases, Broken}
 use Rattle.house.specs.declared.cases.RecordFile as RecordFile-type
-
--- a case: its inputs and its observed outputs
-pub record Case : Type 0 where
-  pub inputs : List ℕ
-  pub outputs : List ℕ
 
 -- a record has at most 64 cases
 abbrev pub casesMost : ℕ
@@ -45,6 +40,11 @@ pub record Recordable (c : Case) : Type 0 where
   pub some-steps : 1 ≤ length (c .inputs)
   pub few-steps : length (c .inputs) ≤ stepsMost
   pub even : length (c .outputs) ≡ length (c .inputs)
+
+-- each case of a list is one that a record can hold
+abbrev pub AllRecordable : List Case → Type 0
+AllRecordable [] = Unit {0}
+AllRecordable (c ∷ cs) = Recordable c × AllRecordable cs
 
 -- the length byte of the case that stands at a place
 abbrev pub stepsAt : List ℕ → ℕ → ℕ
@@ -97,13 +97,13 @@ unfoldable pub recordRules : List ℕ → List (Rule Refusal)
 recordRules file = fileRules file ++ (when (isBroken (countIn file)) Record ∷ [])
 
 -- the count of cases where no rule refuses, else the refusal
-abbrev pub recordOr : Verdict Refusal → ℕ → RecordFile-type.RecordFile
+abbrev pub recordOr : Ruling Refusal → ℕ → RecordFile-type.RecordFile
 recordOr fine n = RecordFile-type.the-variants.Record n
 recordOr (refused r) n = RecordFile-type.the-variants.Refused r
 
 -- what reading a record file answers
 unfoldable pub recordRead : List ℕ → RecordFile-type.RecordFile
-recordRead file = recordOr (verdict (recordRules file)) (countOf (countIn file))
+recordRead file = recordOr (ruling (recordRules file)) (countOf (countIn file))
 
 -- n cases from a place on
 unfoldable pub casesFrom : List ℕ → ℕ → ℕ → List Case

@@ -3,3 +3,4 @@ pub mod File
 pub mod Table
 pub mod Cases
 pub mod Retest
+pub mod Bytes

@@ -1,7 +1,7 @@
 -- The paper's number of each refusal and what it carries (document 01, "Refusal numbers"), and what a list of rules makes a call answer.
 use Prim.Native.Nat.{ℕ}
 use mathlib.Core.List.{List}
-use Rattle.shapes.specs.Refusals.{Rule, Verdict, fine, refused, verdict}
+use Rattle.shapes.specs.Refusals.{Rule, Ruling, fine, refused, ruling}
 use Rattle.house.specs.declared.refusal.Refusal.{Refusal}
 use Rattle.house.specs.declared.refusal.Refusal.the-variants.{Short, Version, Length, Size, Cell, Step, Full, Slot, Damaged, Record, Number}
 use Rattle.house.specs.declared.refusal.Checked as Checked-type
@@ -36,11 +36,11 @@ carriedOf Record = 0
 carriedOf Number = 0
 
 -- a call that only checks answers what its rules say
-abbrev pub checked : Verdict Refusal → Checked-type.Checked
+abbrev pub checked : Ruling Refusal → Checked-type.Checked
 checked fine = Checked-type.the-variants.Fine
 checked (refused r) = Checked-type.the-variants.Refused r
 
 -- a call that answers a number answers it where its rules say nothing
-abbrev pub answered : Verdict Refusal → ℕ → Answer-type.Answer
+abbrev pub answered : Ruling Refusal → ℕ → Answer-type.Answer
 answered fine n = Answer-type.the-variants.Done n
 answered (refused r) n = Answer-type.the-variants.Refused r

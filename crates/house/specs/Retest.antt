@@ -6,7 +6,7 @@ use mathlib.Core.Bool.{Bool, cond, not, _&&_}
 use lib.Dec.{eqb, ltb, leb}
 use lib.ListN.{length, getD, take, drop}
 use Rattle.shapes.specs.First.{first}
-use Rattle.shapes.specs.Refusals.{Rule, when, Verdict, fine, refused, verdict}
+use Rattle.shapes.specs.Refusals.{Rule, when, Ruling, fine, refused, ruling}
 use Rattle.house.specs.Refusal.{numberOf}
 use Rattle.house.specs.File.{restAt}
 use Rattle.house.specs.Cases.{stepsAt, caseEnd, countIn, countOf, recordRules}
@@ -44,17 +44,17 @@ unfoldable pub picked : List ℕ → List ℕ → ℕ → List ℕ
 picked a b p = cond (ltb (matchOf a p b) (countOf (countIn b))) (caseIn b (placeOf b (matchOf a p b))) (caseIn a p)
 
 -- the part handed back: nothing on refusal
-abbrev pub pickedOr : Verdict Refusal → List ℕ → List ℕ
+abbrev pub pickedOr : Ruling Refusal → List ℕ → List ℕ
 pickedOr fine l = l
 pickedOr (refused r) l = []
 
 unfoldable pub retested : List ℕ → List ℕ → ℕ → List ℕ
-retested a b position = pickedOr (verdict (retestRules a b position)) (picked a b (placeOf a position))
+retested a b position = pickedOr (ruling (retestRules a b position)) (picked a b (placeOf a position))
 
 -- what the second call answers: the refusal's number, 0 where there is none
-abbrev pub numberOr : Verdict Refusal → ℕ
+abbrev pub numberOr : Ruling Refusal → ℕ
 numberOr fine = 0
 numberOr (refused r) = numberOf r
 
 unfoldable pub retestNumber : List ℕ → List ℕ → ℕ → ℕ
-retestNumber a b position = numberOr (verdict (retestRules a b position))
+retestNumber a b position = numberOr (ruling (retestRules a b position))

@@ -4,7 +4,7 @@ use mathlib.Core.List.{List, [], _∷_, _++_}
 use mathlib.Core.Bool.{Bool, not, _||_}
 use lib.Dec.{eqb, ltb}
 use lib.ListN.{length, getD, take, drop}
-use Rattle.shapes.specs.Refusals.{Rule, when, Verdict, fine, refused, verdict}
+use Rattle.shapes.specs.Refusals.{Rule, when, Ruling, fine, refused, ruling}
 use Rattle.machine.specs.Head.{goodHead, cellCount}
 use Rattle.machine.specs.Cell.{firstBad}
 use Rattle.machine.specs.declared.head.Head.{Head}
@@ -42,13 +42,13 @@ tableRules file =
     ∷ when (badCells file) (Cell (firstBad (headIn file) (cellsIn file))) ∷ [])
 
 -- the table where no rule refuses, else the refusal
-abbrev pub tableOr : Verdict Refusal → Head → TableFile
+abbrev pub tableOr : Ruling Refusal → Head → TableFile
 tableOr fine h = Table h
 tableOr (refused r) h = Refused r
 
 -- what reading a table file answers
 unfoldable pub tableRead : List ℕ → TableFile
-tableRead file = tableOr (verdict (tableRules file)) (headIn file)
+tableRead file = tableOr (ruling (tableRules file)) (headIn file)
 
 -- how many bytes a table file has
 abbrev pub tableBytes : Head → ℕ

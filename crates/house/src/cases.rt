@@ -13,7 +13,7 @@ ghost use mathlib.Core.Path.{_≡_};
 ghost use Prim.Native.Nat.{_+_, _*_, _≤_, _<_};
 ghost use lib.ListN.{length};
 ghost use Rattle.shapes.specs.Edit.{filled};
-ghost use Rattle.shapes.specs.Refusals.{verdict};
+ghost use Rattle.shapes.specs.Refusals.{ruling};
 ghost use Rattle.machine.specs.Limits.{stepsMost};
 ghost use Rattle.house.specs.Refusal.{checked};
 ghost use Rattle.house.specs.File.{restAt};
@@ -137,7 +137,7 @@ pub fn put_case(out: &mut [u8], at: usize, inputs: &[u8], outputs: &[u8]) -> usi
 
 // What is wrong with a case against a head.
 pub fn check_case(head: Head, inputs: &[u8], outputs: &[u8]) -> Checked
-    ensures { λ r. ⌜ r ≡ checked (verdict (caseRules head (record { inputs = now (inputs .entry); outputs = now (outputs .entry) }))) ⌝ }
+    ensures { λ r. ⌜ r ≡ checked (ruling (caseRules head (record { inputs = now (inputs .entry); outputs = now (outputs .entry) }))) ⌝ }
 {
     if !is_case(head, inputs, outputs) {
         return Checked::Refused(Refusal::Step);

@@ -5,7 +5,7 @@ use shapes::byte;
 ghost use mathlib.Core.Path.{_≡_};
 ghost use Prim.Native.Nat.{_≤_, _<_};
 ghost use lib.ListN.{length};
-ghost use Rattle.shapes.specs.Refusals.{verdict};
+ghost use Rattle.shapes.specs.Refusals.{ruling};
 ghost use Rattle.shapes.specs.Edit.{filled};
 ghost use Rattle.house.specs.Refusal.{checked};
 ghost use Rattle.house.specs.File.{fileRules, fileHead};
@@ -17,7 +17,7 @@ pub const REST: usize = 3;
 
 // The refusal of a file that is no house file, whatever it holds.
 pub fn check_file(file: &[u8]) -> Checked
-    ensures { λ r. ⌜ r ≡ checked (verdict (fileRules (now (file .entry)))) ⌝ }
+    ensures { λ r. ⌜ r ≡ checked (ruling (fileRules (now (file .entry)))) ⌝ }
 {
     if file.len() < REST {
         return Checked::Refused(Refusal::Length);

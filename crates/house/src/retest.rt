@@ -8,7 +8,7 @@ use shapes::byte;
 ghost use mathlib.Core.Path.{_≡_};
 ghost use Prim.Native.Nat.{_+_, _*_, _≤_, _<_};
 ghost use lib.ListN.{length};
-ghost use Rattle.shapes.specs.Refusals.{verdict, fine};
+ghost use Rattle.shapes.specs.Refusals.{ruling, fine};
 ghost use Rattle.house.specs.Refusal.{checked};
 ghost use Rattle.house.specs.Cases.{stepsAt, caseEnd, countIn, countOf, recordRules};
 ghost use Rattle.house.specs.Retest.{placeOf, sameInputs, matchOf, retestRules, retested, retestNumber};
@@ -35,7 +35,7 @@ fn is_same(first: &[u8], p: usize, retest: &[u8], q: usize) -> bool
 
 // The refusal of a retest.
 fn check_retest(first: &[u8], retest: &[u8], position: usize) -> Checked
-    ensures { λ r. ⌜ r ≡ checked (verdict (retestRules (now (first .entry)) (now (retest .entry)) position)) ⌝ }
+    ensures { λ r. ⌜ r ≡ checked (ruling (retestRules (now (first .entry)) (now (retest .entry)) position)) ⌝ }
 {
     let read = read_record(first);
     match read {
@@ -55,7 +55,7 @@ fn check_retest(first: &[u8], retest: &[u8], position: usize) -> Checked
 
 // The place of the case at a position of a record.
 fn place(file: &[u8], position: usize) -> usize
-    requires { ⌜ verdict (recordRules (now file)) ≡ fine ⌝ }
+    requires { ⌜ ruling (recordRules (now file)) ≡ fine ⌝ }
     requires { ⌜ position < countOf (countIn (now file)) ⌝ }
     ensures { λ r. ⌜ (r ≡ placeOf (now (file .entry)) position) × (caseEnd (now (file .entry)) r ≤ length (now (file .entry))) ⌝ }
 {
@@ -71,7 +71,7 @@ fn place(file: &[u8], position: usize) -> usize
 // The place of the first retest case with the inputs of the case at place p, or the retest's length where there is none.
 fn match_place(first: &[u8], p: usize, retest: &[u8]) -> usize
     requires { ⌜ caseEnd (now first) p ≤ length (now first) ⌝ }
-    requires { ⌜ verdict (recordRules (now retest)) ≡ fine ⌝ }
+    requires { ⌜ ruling (recordRules (now retest)) ≡ fine ⌝ }
     ensures { λ r. ⌜ r ≡ placeOf (now (retest .entry)) (matchOf (now (first .entry)) p (now (retest .entry))) ⌝ }
 {
     let mut at = REST;

@@ -13,7 +13,7 @@ ghost use mathlib.Core.Path.{_≡_};
 ghost use Prim.Native.Nat.{_+_, _*_, _≤_};
 ghost use lib.ListN.{length};
 ghost use Rattle.shapes.specs.Edit.{filled};
-ghost use Rattle.shapes.specs.Refusals.{fine, verdict};
+ghost use Rattle.shapes.specs.Refusals.{fine, ruling};
 ghost use Rattle.house.specs.File.{fileRules};
 ghost use Rattle.machine.specs.Head.{HeadIn, cellCount};
 ghost use Rattle.house.specs.Table.{tableRead, tableHeadBytes, tableFile, tableBytes};
@@ -40,7 +40,7 @@ pub fn read_table(file: &[u8]) -> TableFile
 
 // The same of a file whose first three bytes are right.
 fn read_checked(file: &[u8]) -> TableFile
-    requires { ⌜ verdict (fileRules (now file)) ≡ fine ⌝ }
+    requires { ⌜ ruling (fileRules (now file)) ≡ fine ⌝ }
     ensures { λ r. ⌜ r ≡ tableRead (now (file .entry)) ⌝ }
 {
     if file.len() < CELLS {

@@ -38,6 +38,8 @@ use Rattle.machine.proofs.replay.symptoms_of.Kinds as symptoms-of-kinds
 use Rattle.machine.proofs.replay.symptoms_of.Reads as symptoms-of-reads
 use Rattle.machine.proofs.replay.is_reproduced.Kinds as is-reproduced-kinds
 use Rattle.machine.proofs.replay.is_reproduced.Reads as is-reproduced-reads
+use Rattle.machine.proofs.replay.is_expected.Kinds as is-expected-kinds
+use Rattle.machine.proofs.replay.is_expected.Reads as is-expected-reads
 use Rattle.machine.proofs.replay.mark_executed.Kinds as mark-executed-kinds
 use Rattle.machine.proofs.replay.mark_executed.Reads as mark-executed-reads
 
@@ -97,3 +99,6 @@ is-reproduced-one κs a z z′ ws ws′ p q = (p ∙ sym q, refl)
 
 mark-executed-one : OneAnswer mark-executed-kinds.ps mark-executed-kinds.r mark-executed-reads.Post
 mark-executed-one κs a z z′ ws ws′ p q = (refl, λ i. (ws .0, (ws .1 .0, (ws .1 .1 .0, ((p ∙ sym q) i, ws .1 .1 .1 .1)))))
+
+is-expected-one : OneAnswer is-expected-kinds.ps is-expected-kinds.r is-expected-reads.Post
+is-expected-one κs a z z′ ws ws′ p q = (p ∙ sym q, refl)

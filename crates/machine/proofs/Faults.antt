@@ -7,11 +7,11 @@ use mathlib.Core.List.{List}
 use mathlib.Core.Bool.{Bool, true, false, cond}
 use borrow.Author.Tests.{ltb-true, ltb-false, eqb-true}
 use lib.Dec.{eqb, ltb}
-use native.Mathlib.Nat.{mod-lt}
+use native.Mathlib.Nat.{mod-lt, zero-div}
 use native.Mathlib.Omega.{arith}
 use Rattle.machine.specs.Head.{HeadIn, cellCount, width, numbers}
 use Rattle.machine.specs.Cell.{TableIn}
-use Rattle.machine.specs.Machine.{Machine, specified}
+use Rattle.machine.specs.Machine.{Machine, initial, completed, specified}
 use Rattle.machine.specs.Fault.{faultOf, madeFault, altered, changeOf, under, changed, own, values, FaultIn}
 use Rattle.machine.specs.declared.head.Head.{Head}
 use Rattle.machine.specs.declared.cell.Move.{Move}
@@ -90,6 +90,12 @@ under-same M d e = ap (λ (g : ℕ → Move). record { inputs = M .inputs; does 
     go : (c : ℕ) (b : Bool) → eqb c (d .cell) ≡ b → cond b (d .to) (M .does c) ≡ M .does c
     go c true here = rw (eqb-true c (d .cell) here) e
     go c false here = refl
+
+-- as is one that puts at cell 0 what the table has there
+pub first-cell-same : (h : Head) (cells : List ℕ) (to : Move) → to ≡ completed cells initial 0
+    → under (specified h cells) (record { cell = 0; to = to }) ≡ specified h cells
+unfolding specified
+first-cell-same h cells to e = under-same (specified h cells) (record { cell = 0; to = to }) (rw zero-div e)
 
 -- "A number whose value equals the cell's own leaves the machine the same"
 pub changed-same : (h : Head) (cells : List ℕ) (f : ℕ)

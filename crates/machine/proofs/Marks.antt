@@ -1,9 +1,9 @@
 -- A walk that marks the cells it executes: what is left to mark from here, marked into what was marked so far, is the whole marked.
 -- And what a marked list holds. Assumes nothing.
-use Prim.Native.Nat.{ℕ, _+_, _*_, _%_, _≤_, _<_}
+use Prim.Native.Nat.{ℕ, suc, _+_, _*_, _%_, _≤_, _<_}
 use mathlib.Core.Path.{_≡_, refl, sym, _∙_}
 use mathlib.Core.List.{List, [], _∷_}
-use mathlib.Core.Bool.{Bool, true, false, cond, _||_}
+use mathlib.Core.Bool.{Bool, true, false, cond, _||_, false≢true}
 use native.Mathlib.Nat.{mod-eq-of-lt}
 use native.Mathlib.Numerals.{add-one}
 use native.Mathlib.Omega.{arith}
@@ -11,10 +11,15 @@ use lib.Dec.{eqb}
 use lib.ListN.{length, getD, set, drop, length-set, drop-of-length-le}
 use lib.Seq.{drop-cons, getD-set-same, getD-set-other}
 use borrow.Author.Tests.{eqb-true, eqb-false}
-use Rattle.machine.specs.Head.{HeadIn}
-use Rattle.machine.specs.Machine.{Machine, initial, cellAt}
-use Rattle.machine.specs.Run.{path, has, executed, marked}
+use Rattle.shapes.specs.Keep.{has}
+use Rattle.machine.specs.Head.{HeadIn, cellCount}
+use Rattle.machine.specs.Cell.{TableIn}
+use Rattle.machine.specs.Machine.{Machine, initial, cellAt, specified}
+use Rattle.machine.specs.Case.{InputsIn}
+use Rattle.machine.specs.Run.{path, executed, marked}
 use Rattle.machine.specs.declared.head.Head.{Head}
+use Rattle.machine.proofs.Numbers.{cell-below}
+use Rattle.machine.proofs.Moves.{specified-does, completed-in}
 
 -- where the walk stands: at step t, in state s
 pub record Marking (h : Head) (M : Machine) (is out₀ : List ℕ) (t s : ℕ) (out : List ℕ) : Type 0 where
@@ -74,3 +79,28 @@ marked-at (d ∷ cs) out c l =
     go true e false = rw (sym (eqb-true c d e), getD-set-same out c _ 0 l)
     go false e true = rw (getD-set-other out d c _ 0 (eqb-false c d e))
     go false e false = rw (getD-set-other out d c _ 0 (eqb-false c d e))
+
+-- every cell on the path of a machine that stays among n states is one of theirs
+path-in : (M : Machine) (n : ℕ) → ((s i : ℕ) → s < n → i < M .inputs → M .does (cellAt M s i) .next < n) → (s : ℕ) → s < n → (is : List ℕ)
+    → ((t : ℕ) → t < length is → getD is t 0 < M .inputs) → (c : ℕ) → has c (path M s is) ≡ true → c < n * M .inputs
+unfolding path has
+path-in M n stays s ls [] within c e = absurd (false≢true e)
+path-in M n stays s ls (i ∷ is) within c e =
+    go (eqb c (cellAt M s i)) refl
+    (path-in M n stays (M .does (cellAt M s i) .next) (stays s i ls (within 0 (omega arith))) is (λ t l. within (suc t) (omega arith)) c) e
+  where
+    go : (b : Bool) → eqb c (cellAt M s i) ≡ b → (has c (path M (M .does (cellAt M s i) .next) is) ≡ true → c < n * M .inputs)
+        → (b || has c (path M (M .does (cellAt M s i) .next) is)) ≡ true → c < n * M .inputs
+    go true here rest e = omega (arith, eqb-true c (cellAt M s i) here, cell-below n (M .inputs) s i ls (within 0 (omega arith)))
+    go false here rest e = rest e
+
+-- so is every cell that the specified machine executes in a case
+pub executed-in : (h : Head) (cells : List ℕ) → TableIn h cells → (is : List ℕ) → InputsIn h is → (c : ℕ)
+    → has c (executed (specified h cells) is) ≡ true → c < cellCount h
+unfolding executed specified
+executed-in h cells t is within c e = path-in (specified h cells) (h .states) stays initial (t .head .some-states) is within c e
+  where
+    stays : (s i : ℕ) → s < h .states → i < h .inputs → specified h cells .does (s * h .inputs + i) .next < h .states
+    stays s i ls li =
+        rw (specified-does h cells s i li)
+        (completed-in h cells t s (s * h .inputs + i) ls (cell-below (h .states) (h .inputs) s i ls li))

@@ -10,10 +10,11 @@ use lib.Dec.{eqb, eqb·suc-zero}
 use lib.ListN.{length, take, getD}
 use borrow.Author.Tests.{eqb-false, ne-eqb}
 use Rattle.shapes.proofs.Tests.{and-true, or-false}
+use Rattle.shapes.specs.Keep.{has}
 use Rattle.machine.specs.Limits.{stepsMost}
 use Rattle.machine.specs.Machine.{Machine, cellAt, specified}
 use Rattle.machine.specs.Fault.{cellOf, faultOf, changeOf, under, changed}
-use Rattle.machine.specs.Run.{run, path, has, agrees, differing, firstDiffering, matching, expected, executed, symptomsOf, reproduces}
+use Rattle.machine.specs.Run.{run, path, agrees, differing, firstDiffering, matching, expected, executed, symptomsOf, reproduces}
 use Rattle.machine.specs.declared.head.Head.{Head}
 use Rattle.machine.specs.declared.fault.Change.{Change}
 

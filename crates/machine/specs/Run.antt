@@ -2,7 +2,7 @@
 -- The layers above rest on the laws of `proofs/Run.antt` and unfold none of these.
 use Prim.Native.Nat.{ℕ, suc, _+_, _%_}
 use mathlib.Core.List.{List, [], _∷_}
-use mathlib.Core.Bool.{Bool, true, false, cond, _&&_, _||_}
+use mathlib.Core.Bool.{Bool, true, cond, _&&_}
 use lib.Dec.{eqb}
 use lib.ListN.{getD, set}
 use Rattle.machine.specs.Limits.{stepsMost}
@@ -18,11 +18,6 @@ run M s (i ∷ is) = M .does (cellAt M s i) .output ∷ run M (M .does (cellAt M
 unfoldable pub path : Machine → ℕ → List ℕ → List ℕ
 path M s [] = []
 path M s (i ∷ is) = cellAt M s i ∷ path M (M .does (cellAt M s i) .next) is
-
--- a cell is among cells
-unfoldable pub has : ℕ → List ℕ → Bool
-has c [] = false
-has c (d ∷ ds) = eqb c d || has c ds
 
 -- an observed output agrees with a given one: it is equal
 unfoldable pub agrees : ℕ → ℕ → Bool

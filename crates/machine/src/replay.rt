@@ -191,6 +191,16 @@ pub fn is_reproduced(head: Head, cells: &[u8], number: usize, inputs: &[u8], out
     reproduces_under(head, cells, fault.change(head, cells), inputs, outputs)
 }
 
+// Whether the specified machine reproduces a case. What cell 0 does anyway is put in its place, which changes nothing.
+pub fn is_expected(head: Head, cells: &[u8], inputs: &[u8], outputs: &[u8]) -> bool
+    requires { ⌜ TableIn head (now cells) ⌝ }
+    requires { ⌜ CaseIn head (now inputs) (now outputs) ⌝ }
+    ensures { λ r. ⌜ r ≡ reproduces (specified head (now (cells .entry))) (now (inputs .entry)) (now (outputs .entry)) ⌝ }
+{
+    let to = completed_move(cells, INITIAL, 0);
+    reproduces_under(head, cells, Change { cell: 0, to }, inputs, outputs)
+}
+
 // Marks each cell that the specified machine executes under the inputs: of what stands there, 0 or 1, it makes 2 or 3.
 pub fn mark_executed(head: Head, cells: &[u8], inputs: &[u8], out: &mut [u8])
     requires { ⌜ TableIn head (now cells) ⌝ }

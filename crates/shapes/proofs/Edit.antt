@@ -1,14 +1,17 @@
 -- What `edit` and `filled` change, what they leave, and how a loop that goes up by one makes them.
 -- Assumes nothing.
-use Prim.Native.Nat.{ℕ, zero, suc, _+_, _≤_, _<_}
-use mathlib.Core.Path.{_≡_, refl}
+use Prim.Native.Nat.{ℕ, zero, suc, _+_, _-_, _≤_, _<_}
+use mathlib.Core.Path.{_≡_, refl, sym, _∙_}
+use mathlib.Core.Bool.{Bool, true, false}
 use mathlib.Core.Logic.{_⊎_, inl, inr, _≢_}
 use mathlib.Core.List.{List, [], _∷_, _++_}
 use native.Mathlib.Numerals.{add-one}
 use native.Mathlib.Nat.{eq-or-lt-of-le, add-zero, add-suc, add-assoc}
 use native.Mathlib.Omega.{arith}
+use lib.Dec.{ltb}
+use borrow.Author.Tests.{ltb-true, ltb-false}
 use lib.ListN.{length, getD, set, take, drop, length-set, length-append, length-take, length-drop, List·getD-append}
-use lib.Seq.{getD-set-same, getD-set-other, getD-take, getD-drop, getD-append-add, ext-getD}
+use lib.Seq.{set-getD, getD-set-same, getD-set-other, getD-take, getD-drop, getD-append-add, ext-getD}
 use Rattle.shapes.specs.Edit.{edit, filled}
 
 module _ (f : ℕ → ℕ → ℕ) (at : ℕ) where
@@ -48,6 +51,10 @@ module _ (f : ℕ → ℕ → ℕ) (at : ℕ) where
   pub edit-next : (n : ℕ) (l : List ℕ) → getD (edit f at n l) (at + n) 0 ≡ getD l (at + n) 0
   edit-next n l = edit-out-above n l (at + n) (omega arith)
 
+  -- a loop's turn: where the part's first n are changed, changing the next makes it n + 1
+  pub edit-turn : (n : ℕ) (l done : List ℕ) (i v : ℕ) → done ≡ edit f at n l → i ≡ at + n → v ≡ f n (getD done i 0) → set done i v ≡ edit f at (n + 1) l
+  edit-turn n l done i v e ei ev = rw (ev, ei, e, edit-next n l, edit-more n l)
+
   -- what stands in the part is changed
   pub edit-in : (n : ℕ) (l : List ℕ) (i : ℕ) → i < n → at + i < length l → getD (edit f at n l) (at + i) 0 ≡ f i (getD l (at + i) 0)
   unfolding edit
@@ -77,6 +84,37 @@ module _ (f : ℕ → ℕ → ℕ) (at : ℕ) where
   edit-compose m (suc n) l =
       let e = edit-compose m n l in
       let d = edit-out-above m l (at + m + n) (omega arith) in rw (add-suc, e, d, add-assoc)
+
+-- a change of nothing leaves the list
+pub edit-kept : (at n : ℕ) (l : List ℕ) → edit (λ i old. old) at n l ≡ l
+unfolding edit
+edit-kept at zero l = refl
+edit-kept at (suc n) l = let e = edit-kept at n l in rw (e, set-getD)
+
+-- two parts that are changed to the same, in lists that are the same elsewhere, make the same list
+pub edit-ext : (f g : ℕ → ℕ → ℕ) (at n : ℕ) (l m : List ℕ) → length l ≡ length m → ((j : ℕ) → j < at → getD l j 0 ≡ getD m j 0)
+    → ((j : ℕ) → at + n ≤ j → j < length l → getD l j 0 ≡ getD m j 0)
+    → ((i : ℕ) → i < n → at + i < length l → f i (getD l (at + i) 0) ≡ g i (getD m (at + i) 0)) → edit f at n l ≡ edit g at n m
+edit-ext f g at n l m long below above inside =
+    ext-getD 0 (edit f at n l) (edit g at n m) (length-edit f at n l ∙ long ∙ sym (length-edit g at n m))
+    (λ j h. go j (rw (length-edit f at n l) at h) (ltb j at) refl (ltb j (at + n)) refl)
+  where
+    go : (j : ℕ) → j < length l → (a : Bool) → ltb j at ≡ a → (b : Bool) → ltb j (at + n) ≡ b
+        → getD (edit f at n l) j 0 ≡ getD (edit g at n m) j 0
+    go j h true ea b eb =
+        let k = ltb-true j at ea in
+        edit-out-below f at n l j k ∙ below j k ∙ sym (edit-out-below g at n m j k)
+    go j h false ea false eb =
+        let k = ltb-false j (at + n) eb in
+        edit-out-above f at n l j k ∙ above j k h ∙ sym (edit-out-above g at n m j k)
+    go j h false ea true eb =
+        let low = ltb-false j at ea in
+        let high = ltb-true j (at + n) eb in
+        let e : j ≡ at + (j - at) = omega arith in
+        let i : j - at < n = omega arith in
+        let k : at + (j - at) < length l = omega arith in
+        rw e
+        (edit-in f at n l (j - at) i k ∙ inside (j - at) i k ∙ sym (edit-in g at n m (j - at) i (rw (← long) k)))
 
 -- the length stays
 pub length-filled : (l : List ℕ) (at : ℕ) (v : List ℕ) → length (filled l at v) ≡ length l

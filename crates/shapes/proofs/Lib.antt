@@ -1,5 +1,6 @@
 pub mod Tests
 pub mod First
+pub mod Keep
 pub mod Edit
 pub mod Refusals
 pub mod Answers

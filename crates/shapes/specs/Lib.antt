@@ -1,4 +1,5 @@
 pub mod First
+pub mod Keep
 pub mod Edit
 pub mod Refusals
 pub mod OneAnswer

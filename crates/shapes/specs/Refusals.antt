@@ -9,20 +9,20 @@ pub data Rule (R : Type 0) : Type 0 where
   when : Bool → R → Rule R
 
 -- what a list of rules says: fine, or refused with r
-pub data Verdict (R : Type 0) : Type 0 where
-  fine : Verdict R
-  refused : R → Verdict R
+pub data Ruling (R : Type 0) : Type 0 where
+  fine : Ruling R
+  refused : R → Ruling R
 
 -- one rule: refused with r where the test is true, else what the rest says
-unfoldable pub pick : {R : Type 0} → Bool → R → Verdict R → Verdict R
+unfoldable pub pick : {R : Type 0} → Bool → R → Ruling R → Ruling R
 pick true r rest = refused r
 pick false r rest = rest
 
 -- the first rule whose test is true refuses; else fine
-unfoldable pub verdict : {R : Type 0} → List (Rule R) → Verdict R
+unfoldable pub ruling : {R : Type 0} → List (Rule R) → Ruling R
 unfolding pick
-verdict [] = fine
-verdict (when t r ∷ l) = pick t r (verdict l)
+ruling [] = fine
+ruling (when t r ∷ l) = pick t r (ruling l)
 
 -- every rule's test is false
 abbrev pub AllFalse : {R : Type 0} → List (Rule R) → Type 0

@@ -1,0 +1,3 @@
+pub mod Conflicts
+pub mod Lists
+pub mod Candidates

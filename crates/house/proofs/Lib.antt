@@ -1,0 +1,5 @@
+pub mod Forms
+pub mod Tables
+pub mod Records
+pub mod Places
+pub mod Retests

@@ -1,0 +1,378 @@
+-- The record file: what stands at its places, what it is refused for, and that cases written as a record read back as those cases.
+-- Assumes nothing.
+use Prim.Native.Nat.{ℕ, zero, suc, _+_, _-_, _*_, _/_, _%_, _≤_, _<_}
+use mathlib.Core.Path.{_≡_, refl, sym, ap, _∙_}
+use mathlib.Core.Logic.{_↔_}
+use mathlib.Core.List.{List, [], _∷_, _++_, append-nil, append-assoc}
+use mathlib.Core.Bool.{Bool, true, false, cond, not, true≢false}
+use native.Mathlib.Nat.{zero-add, add-zero, sub-zero}
+use native.Mathlib.Numerals.{add-one}
+use native.Mathlib.Omega.{arith}
+use borrow.Author.Tests.{lt-ltb, le-ltb, le-leb, lt-leb, leb-true, leb-false, eq-eqb, eqb-true, not-false}
+use lib.Dec.{ltb, leb}
+use lib.ListN.{length, take, drop, set, length-set, length-append, length-drop, take-append-drop, drop-of-length-le}
+use lib.Seq.{length-take-le, drop-cons, drop-drop, take-append-seam, drop-append-add, getD-append-seam, take-at, drop-at}
+use Rattle.shapes.specs.Edit.{edit, filled}
+use Rattle.shapes.proofs.Edit.{length-filled, filled-append}
+use Rattle.shapes.specs.Refusals.{Rule, when, Ruling, fine, refused, ruling, AllFalse, RefusedBy}
+use Rattle.shapes.proofs.Refusals.{ruling-join-refused, ruling-join-fine, refused-when, fine-when}
+use Rattle.shapes.proofs.Tests.{and-true}
+use Rattle.machine.specs.Limits.{stepsMost}
+use Rattle.house.specs.Refusal.{checked}
+use Rattle.house.specs.File.{version, restAt, fileRules, fileHead, fileOf}
+use Rattle.house.specs.Bytes.{Bytes}
+use Rattle.machine.specs.Case.{Case}
+use Rattle.house.specs.Cases.{caseBytes, restOf, recordFile, Recordable, AllRecordable, caseAt, casesFrom, casesIn, casesMost, stepsAt, caseEnd, caseFits, countFrom, countIn, isBroken, countOf, recordRules, recordOr, recordRead}
+use Rattle.house.specs.declared.refusal.Refusal.{Refusal}
+use Rattle.house.specs.declared.refusal.Refusal as Refusal-type
+use Rattle.house.specs.declared.refusal.Checked as Checked-type
+use Rattle.house.specs.declared.cases.RecordFile.the-variants.{Record, Refused}
+use Rattle.house.specs.declared.cases.Counted.{Counted}
+use Rattle.house.specs.declared.cases.Counted.the-variants.{Cases, Broken}
+use Rattle.house.proofs.Forms.{checked-fine, checked-refused}
+
+-- the code's test that a case ends within the file is the definition's
+pub ends-within : (at steps n : ℕ) → ltb (2 * steps) (n - at) ≡ leb (at + 1 + 2 * steps) n
+ends-within at steps n = go (leb (at + 1 + 2 * steps) n) refl
+  where
+    go : (b : Bool) → leb (at + 1 + 2 * steps) n ≡ b → ltb (2 * steps) (n - at) ≡ b
+    go true e = lt-ltb (2 * steps) (n - at) (omega (arith, leb-true (at + 1 + 2 * steps) n e))
+    go false e = le-ltb (2 * steps) (n - at) (omega (arith, leb-false (at + 1 + 2 * steps) n e))
+
+-- a case that fits has 1 to 64 steps and ends within the file ..
+pub case-fits : (file : List ℕ) (at : ℕ) → caseFits file at ≡ true
+    → (1 ≤ stepsAt file at) × ((stepsAt file at ≤ stepsMost) × (caseEnd file at ≤ length file))
+unfolding caseFits
+case-fits file at e =
+    let a = and-true _ _ e in
+    let w = and-true _ _ (a .0) in
+    (leb-true _ _ (w .0), (leb-true _ _ (w .1), leb-true _ _ (a .1)))
+
+-- .. and one with these fits
+pub fits-case : (file : List ℕ) (at : ℕ) → (1 ≤ stepsAt file at) × ((stepsAt file at ≤ stepsMost) × (caseEnd file at ≤ length file))
+    → caseFits file at ≡ true
+unfolding caseFits
+fits-case file at h = rw (le-leb _ _ (h .0), le-leb _ _ (h .1 .0), le-leb _ _ (h .1 .1))
+
+-- a loop's end: nothing more stands there
+pub count-ended : (file : List ℕ) (left at n : ℕ) → length file ≤ at → countFrom file left at n ≡ Cases n
+unfolding countFrom
+count-ended file zero at n h = rw (le-leb _ _ h)
+count-ended file (suc left) at n h = rw (le-leb _ _ h)
+
+-- no case may be left, and something stands there
+pub count-full : (file : List ℕ) (at n : ℕ) → n ≡ casesMost → at < length file → countFrom file (casesMost - n) at n ≡ Broken
+unfolding countFrom
+count-full file at n all h = let d : 64 - n ≡ 0 = omega arith in rw (d, lt-leb _ _ h)
+
+-- what stands there is no case
+pub count-broken : (file : List ℕ) (left at n : ℕ) → at < length file → caseFits file at ≡ false → countFrom file left at n ≡ Broken
+unfolding countFrom
+count-broken file zero at n h e = rw (lt-leb _ _ h)
+count-broken file (suc left) at n h e = rw (lt-leb _ _ h, e)
+
+-- a case stands there, and the rest is counted from the place after it
+pub count-more : (file : List ℕ) (left at n : ℕ) → at < length file → caseFits file at ≡ true
+    → countFrom file (suc left) at n ≡ countFrom file left (caseEnd file at) (suc n)
+unfolding countFrom
+count-more file left at n h e = rw (lt-leb _ _ h, e)
+
+-- a loop's turn
+pub count-turn : (file : List ℕ) (at n : ℕ) → n < casesMost → at < length file → caseFits file at ≡ true
+    → countFrom file (casesMost - n) at n ≡ countFrom file (casesMost - (n + 1)) (caseEnd file at) (n + 1)
+count-turn file at n few h e = let d : 64 - n ≡ suc (64 - (n + 1)) = omega arith in rw (d, count-more, add-one n)
+
+-- one number written is one store
+filled-one : (l : List ℕ) (at x : ℕ) → filled l at (x ∷ []) ≡ set l at x
+unfolding filled edit
+filled-one l at x = rw add-zero
+
+-- a store and a write keep the length
+pub length-stored : (out l : List ℕ) (at x place : ℕ) (v : List ℕ) → l ≡ filled (set out at x) place v → length l ≡ length out
+length-stored out l at x place v e = rw (e, length-filled, length-set)
+
+-- the length byte stored, then the inputs written and the outputs after them: the case is written
+pub case-written : (out one two : List ℕ) (at : ℕ) (c : Case) → one ≡ filled (set out at (length (c .inputs))) (at + 1) (c .inputs)
+    → two ≡ filled one (at + 1 + length (c .inputs)) (c .outputs) → two ≡ filled out at (caseBytes c)
+unfolding caseBytes
+case-written out one two at c d e =
+    let n : ℕ = length (c .inputs) in
+    rw (e, d, filled-append (set out at n) (at + 1) (c .inputs) (c .outputs), ← filled-one out at n)
+    (filled-append out at (n ∷ []) (c .inputs ++ c .outputs))
+
+-- what every file is refused for, a record is refused for
+pub read-refused : (file : List ℕ) (r : Refusal) → checked (ruling (fileRules file)) ≡ Checked-type.the-variants.Refused r → Refused r ≡ recordRead file
+unfolding recordRead recordRules
+read-refused file r e = rw (ruling-join-refused (fileRules file) _ r (checked-refused _ e))
+
+-- a file whose cases are broken is refused for that
+pub read-broken : (file : List ℕ) → checked (ruling (fileRules file)) ≡ Checked-type.the-variants.Fine → countIn file ≡ Broken
+    → Refused Refusal-type.the-variants.Record ≡ recordRead file
+unfolding recordRead recordRules ruling
+read-broken file e d = rw (ruling-join-fine (fileRules file) _ (checked-fine _ e), d)
+
+-- any other is a record, with the cases counted
+pub read-counted : (file : List ℕ) (n : ℕ) → checked (ruling (fileRules file)) ≡ Checked-type.the-variants.Fine → countIn file ≡ Cases n
+    → Record n ≡ recordRead file
+unfolding recordRead recordRules ruling
+read-counted file n e d = rw (ruling-join-fine (fileRules file) _ (checked-fine _ e), d)
+
+-- what the answer for a record file says of its ruling
+or-refused : (v : Ruling Refusal) (m : ℕ) (r : Refusal) → (recordOr v m ≡ Refused r) ↔ (v ≡ refused r)
+or-refused fine m r = (λ e. cc, λ e. cc)
+or-refused (refused q) m r = (λ e. cc, λ e. cc)
+
+-- and what the answer of a count says
+or-taken : (v : Ruling Refusal) (m n : ℕ) → recordOr v m ≡ Record n → (v ≡ fine) × (n ≡ m)
+or-taken fine m n e = (refl, cc)
+or-taken (refused q) m n e = (cc, cc)
+
+-- a record file is refused with r exactly if the first of its rules whose test is true is one of r
+pub record-refused : (file : List ℕ) (r : Refusal) → (recordRead file ≡ Refused r) ↔ RefusedBy (recordRules file) r
+unfolding recordRead
+record-refused file r =
+    let v = or-refused (ruling (recordRules file)) (countOf (countIn file)) r in
+    let w = refused-when (recordRules file) r in
+    (λ e. w .0 (v .0 e), λ h. v .1 (w .1 h))
+
+-- one that is taken breaks none of its rules, and what is answered is the count of its cases
+pub record-taken : (file : List ℕ) (n : ℕ) → recordRead file ≡ Record n → AllFalse (recordRules file) × (n ≡ countOf (countIn file))
+unfolding recordRead
+record-taken file n e =
+    let t = or-taken (ruling (recordRules file)) (countOf (countIn file)) n e in
+    (fine-when (recordRules file) .0 (t .0), t .1)
+
+-- where the tests of two lists of rules are false together, they are false in each
+pub all-false-join : {R : Type 0} (l m : List (Rule R)) → AllFalse (l ++ m) → AllFalse l × AllFalse m
+all-false-join [] m h = (tt, h)
+all-false-join (when t r ∷ l) m h = let rest = all-false-join l m (h .1) in ((h .0, rest .0), rest .1)
+
+-- a record that no rule refuses is a file that none refuses, and not broken
+pub record-sound : (file : List ℕ) → AllFalse (recordRules file) → AllFalse (fileRules file) × (countIn file ≡ Cases (countOf (countIn file)))
+unfolding recordRules
+record-sound file h = let j = all-false-join (fileRules file) _ h in (j .0, go (countIn file) (j .1 .0))
+  where
+    go : (c : Counted) → isBroken c ≡ false → c ≡ Cases (countOf c)
+    go (Cases n) e = refl
+    go Broken e = cc
+
+-- a count goes up from where it began, and by no more than what may be left
+pub count-bounds : (file : List ℕ) (left at n m : ℕ) → countFrom file left at n ≡ Cases m → (n ≤ m) × (m ≤ n + left)
+unfolding countFrom
+count-bounds file zero at n m = go (leb (length file) at)
+  where
+    go : (b : Bool) → cond b (Cases n) Broken ≡ Cases m → (n ≤ m) × (m ≤ n + 0)
+    go true e = let d : n ≡ m = cc in omega arith
+    go false e = let z : _≡_ {A = ℕ} 0 1 = cc in absurd (omega arith)
+count-bounds file (suc left) at n m =
+    go (leb (length file) at) (caseFits file at) (count-bounds file left (caseEnd file at) (suc n) m)
+  where
+    go : (b f : Bool) → (countFrom file left (caseEnd file at) (suc n) ≡ Cases m → (suc n ≤ m) × (m ≤ suc n + left))
+        → cond b (Cases n) (cond f (countFrom file left (caseEnd file at) (suc n)) Broken) ≡ Cases m → (n ≤ m) × (m ≤ n + suc left)
+    go true f rest e = let d : n ≡ m = cc in omega arith
+    go false true rest e = let r = rest e in omega arith
+    go false false rest e = let z : _≡_ {A = ℕ} 0 1 = cc in absurd (omega arith)
+
+-- a record that is taken has the count of cases that is answered, and they are at most 64
+pub record-count : (file : List ℕ) (n : ℕ) → recordRead file ≡ Record n → (countIn file ≡ Cases n) × (n ≤ casesMost)
+unfolding countIn
+record-count file n e =
+    let t = record-taken file n e in
+    let c : countIn file ≡ Cases n = rw (t .1) (record-sound file (t .0) .1) in
+    (c, omega (arith, count-bounds file casesMost restAt 0 n c))
+
+-- a case has a length byte, and a byte for each input and output
+length-bytes : (c : Case) → length (caseBytes c) ≡ 1 + (length (c .inputs) + length (c .outputs))
+unfolding caseBytes
+length-bytes c = let e = length-append (c .inputs) (c .outputs) in omega arith
+
+-- a case written after a list, with another list after it: it stands at the place after the first list
+module _ (pre : List ℕ) (c : Case) (rest : List ℕ) where
+  -- its length byte stands there
+  written-steps : stepsAt (pre ++ (caseBytes c ++ rest)) (length pre) ≡ length (c .inputs)
+  unfolding caseBytes
+  written-steps = getD-append-seam pre (length (c .inputs)) _ 0
+
+  -- the place after it is that after its bytes
+  written-end : Recordable c → caseEnd (pre ++ (caseBytes c ++ rest)) (length pre) ≡ length (pre ++ caseBytes c)
+  written-end ok = rw (written-steps, length-append) (omega (arith, length-bytes c, ok .even))
+
+  -- it begins within the list
+  written-inside : length pre < length (pre ++ (caseBytes c ++ rest))
+  written-inside = simp length-append (omega (arith, length-bytes c))
+
+  -- it fits
+  written-fits : Recordable c → caseFits (pre ++ (caseBytes c ++ rest)) (length pre) ≡ true
+  written-fits ok =
+      let e = written-steps in
+      fits-case (pre ++ (caseBytes c ++ rest)) (length pre)
+      (rw e (ok .some-steps), (rw e (ok .few-steps), rw (written-end ok) (simp length-append (omega arith))))
+
+  -- its inputs stand after the length byte ..
+  written-inputs : take (length (c .inputs)) (drop (length pre + 1) (pre ++ (caseBytes c ++ rest))) ≡ c .inputs
+  unfolding caseBytes
+  written-inputs = rw (drop-append-add pre _ 1, append-assoc) (take-append-seam (c .inputs) (c .outputs ++ rest))
+
+  -- .. and its outputs after these
+  written-outputs : Recordable c → take (length (c .inputs)) (drop (length pre + 1 + length (c .inputs)) (pre ++ (caseBytes c ++ rest))) ≡ c .outputs
+  unfolding caseBytes
+  written-outputs ok = rw (split, drop-at front (c .outputs ++ rest) _ size) (take-at (c .outputs) rest (length (c .inputs)) (ok .even))
+    where
+      front : List ℕ
+      front = pre ++ (length (c .inputs) ∷ c .inputs)
+
+      size : length front ≡ length pre + 1 + length (c .inputs)
+      size = simp length-append (omega arith)
+
+      split : pre ++ (caseBytes c ++ rest) ≡ front ++ (c .outputs ++ rest)
+      split = simp append-assoc
+
+  -- so the case that stands there is the one written
+  written-case : Recordable c → caseAt (pre ++ (caseBytes c ++ rest)) (length pre) ≡ c
+  unfolding caseAt
+  written-case ok = rw written-steps (λ i. record { inputs = written-inputs i; outputs = written-outputs ok i })
+
+-- the cases written after a list are counted from the place after it ..
+pub count-written : (cs : List Case) (pre : List ℕ) (left n : ℕ) → AllRecordable cs → length cs ≤ left
+    → countFrom (pre ++ restOf cs) left (length pre) n ≡ Cases (n + length cs)
+unfolding restOf
+count-written [] pre left n ok few = rw (append-nil, add-zero) (count-ended pre left (length pre) n (omega arith))
+count-written (c ∷ cs) pre zero n ok few = absurd (omega arith)
+count-written (c ∷ cs) pre (suc left) n ok few =
+    let w = count-more _ left _ n (written-inside pre c (restOf cs)) (written-fits pre c (restOf cs) (ok .0)) in
+    let e = count-written cs (pre ++ caseBytes c) left (suc n) (ok .1) (omega arith) in
+    let d : n + suc (length cs) ≡ suc n + length cs = omega arith in
+    rw (w, written-end pre c (restOf cs) (ok .0), d) (rw append-assoc at e)
+
+-- .. and are those that stand there
+pub cases-written : (cs : List Case) (pre : List ℕ) → AllRecordable cs → casesFrom (pre ++ restOf cs) (length cs) (length pre) ≡ cs
+unfolding restOf casesFrom
+cases-written [] pre ok = refl
+cases-written (c ∷ cs) pre ok =
+    let e = cases-written cs (pre ++ caseBytes c) (ok .1) in
+    rw (written-case pre c (restOf cs) (ok .0), written-end pre c (restOf cs) (ok .0)) (ap (λ l. c ∷ l) (rw append-assoc at e))
+
+-- cases that a record can hold have at most 129 bytes each
+pub rest-length : (cs : List Case) → AllRecordable cs → length (restOf cs) ≤ 129 * length cs
+unfolding restOf
+rest-length [] ok = omega arith
+rest-length (c ∷ cs) ok =
+    let rest = rest-length cs (ok .1) in
+    let e = length-append (caseBytes c) (restOf cs) in
+    let d = length-bytes c in omega (arith, ok .0)
+
+-- so two bytes hold the length of a record's rest
+pub rest-small : (cs : List Case) → length cs ≤ casesMost → AllRecordable cs → length (restOf cs) < 65536
+rest-small cs few ok = omega (arith, rest-length cs ok)
+
+-- the first three bytes before a rest are those of a house file
+file-written : (rest : List ℕ) → AllFalse (fileRules (fileOf rest))
+unfolding fileRules fileOf fileHead
+file-written rest =
+    let n : ℕ = length rest in
+    (le-ltb (suc (suc (suc n))) 3 (omega arith), (refl, (ap not (eq-eqb (n / 256 * 256 + n % 256) (suc (suc (suc n)) - 3) (omega arith)), tt)))
+
+-- and a house file of bytes is its rest after the three bytes that say how long that is
+file-back : (file : List ℕ) → Bytes file → AllFalse (fileRules file) → fileOf (drop restAt file) ≡ file
+unfolding fileRules fileOf fileHead
+file-back [] bytes h = absurd (true≢false (h .0))
+file-back (a ∷ []) bytes h = absurd (true≢false (h .0))
+file-back (a ∷ b ∷ []) bytes h = absurd (true≢false (h .0))
+file-back (a ∷ b ∷ c ∷ rest) bytes h =
+    let first = eqb-true a version (not-false _ (h .1 .0)) in
+    let size = eqb-true (b * 256 + c) (suc (suc (suc (length rest))) - restAt) (not-false _ (h .1 .1 .0)) in
+    let low : c < 256 = bytes 2 (omega arith) in
+    let q : length rest / 256 ≡ b = omega arith in
+    let r : length rest % 256 ≡ c = omega arith in rw (q, r, first)
+
+-- a record written from cases reads back as those cases, in order
+pub record-reads-back : (cs : List Case) → length cs ≤ casesMost → AllRecordable cs
+    → (recordRead (recordFile cs) ≡ Record (length cs)) × (casesIn (recordFile cs) ≡ cs)
+unfolding recordFile casesIn countIn fileOf fileHead
+record-reads-back cs few ok =
+    (sym (read-counted (recordFile cs) (length cs) (rw (fine-when (fileRules (recordFile cs)) .1 (file-written (restOf cs)))) count), rw count (cases-written cs (fileHead (length (restOf cs))) ok))
+  where
+    count : countIn (recordFile cs) ≡ Cases (length cs)
+    count = rw zero-add at (count-written cs (fileHead (length (restOf cs))) casesMost 0 ok few)
+
+-- two parts of a list, one right after the other, and what comes after them are what comes from the first part on
+two-parts : (l : List ℕ) (at n : ℕ) → (take n (drop at l) ++ take n (drop (at + n) l)) ++ drop (at + 2 * n) l ≡ drop at l
+two-parts l at n =
+    let d : at + 2 * n ≡ at + n + n = omega arith in
+    rw (append-assoc, d, ← drop-drop n (at + n) l, take-append-drop n (drop (at + n) l), ← drop-drop n at l, take-append-drop)
+
+-- a place where a case fits
+module _ (file : List ℕ) (at : ℕ) (fits : caseFits file at ≡ true) where
+  -- as many inputs stand there as the length byte says
+  inputs-there : length (take (stepsAt file at) (drop (at + 1) file)) ≡ stepsAt file at
+  inputs-there = let f = case-fits file at fits in length-take-le _ _ (rw length-drop (omega arith))
+
+  -- and as many outputs after them
+  outputs-there : length (take (stepsAt file at) (drop (at + 1 + stepsAt file at) file)) ≡ stepsAt file at
+  outputs-there = let f = case-fits file at fits in length-take-le _ _ (rw length-drop (omega arith))
+
+  -- so the case that stands there is one that a record can hold ..
+  case-recordable : Recordable (caseAt file at)
+  unfolding caseAt
+  case-recordable =
+      let f = case-fits file at fits in
+      record { some-steps = rw inputs-there (f .0); few-steps = rw inputs-there (f .1 .0); even = outputs-there ∙ sym inputs-there }
+
+  -- .. and its bytes and what stands after it are what stands from its place on
+  case-there : caseBytes (caseAt file at) ++ drop (caseEnd file at) file ≡ drop at file
+  unfolding caseBytes caseAt
+  case-there =
+      let f = case-fits file at fits in
+      let h : at < length file = omega arith in
+      rw (inputs-there, two-parts file (at + 1) (stepsAt file at), add-one at) (sym (drop-cons file at 0 h))
+
+-- cases that a record can hold, whose bytes stand from a place to the end
+abbrev Stand : List ℕ → ℕ → List Case → Type 0
+Stand file at cs = (restOf cs ≡ drop at file) × AllRecordable cs
+
+-- at the end no case stands
+stand-ended : (file : List ℕ) (at n m : ℕ) → length file ≤ at → n ≡ m → Stand file at (casesFrom file (m - n) at)
+unfolding restOf casesFrom
+stand-ended file at n m past e = let d : m - n ≡ 0 = omega arith in rw d (sym (drop-of-length-le file past), tt)
+
+-- a case that fits stands before those after it
+stand-more : (file : List ℕ) (at n m : ℕ) → caseFits file at ≡ true → n < m
+    → Stand file (caseEnd file at) (casesFrom file (m - suc n) (caseEnd file at)) → Stand file at (casesFrom file (m - n) at)
+unfolding restOf casesFrom
+stand-more file at n m fits few h =
+    let d : m - n ≡ suc (m - suc n) = omega arith in
+    rw d (rw (h .0) (case-there file at fits), (case-recordable file at fits, h .1))
+
+-- the cases that are counted from a place on stand from there to the end
+pub cases-stand : (file : List ℕ) (left at n m : ℕ) → countFrom file left at n ≡ Cases m → Stand file at (casesFrom file (m - n) at)
+unfolding countFrom
+cases-stand file zero at n m = go (leb (length file) at) refl
+  where
+    go : (b : Bool) → leb (length file) at ≡ b → cond b (Cases n) Broken ≡ Cases m → Stand file at (casesFrom file (m - n) at)
+    go true past e = stand-ended file at n m (leb-true _ _ past) (cc)
+    go false past e = let z : _≡_ {A = ℕ} 0 1 = cc in absurd (omega arith)
+cases-stand file (suc left) at n m =
+    go (leb (length file) at) (caseFits file at) refl refl
+    (λ e. count-bounds file left (caseEnd file at) (suc n) m e .0)
+    (cases-stand file left (caseEnd file at) (suc n) m)
+  where
+    more : Counted
+    more = countFrom file left (caseEnd file at) (suc n)
+
+    go : (b f : Bool) → leb (length file) at ≡ b → caseFits file at ≡ f → (more ≡ Cases m → n < m)
+        → (more ≡ Cases m → Stand file (caseEnd file at) (casesFrom file (m - suc n) (caseEnd file at)))
+        → cond b (Cases n) (cond f more Broken) ≡ Cases m → Stand file at (casesFrom file (m - n) at)
+    go true f past fits few rest e = stand-ended file at n m (leb-true _ _ past) (cc)
+    go false true past fits few rest e = stand-more file at n m fits (few e) (rest e)
+    go false false past fits few rest e = let z : _≡_ {A = ℕ} 0 1 = cc in absurd (omega arith)
+
+-- every record that is taken is the writing of its cases, and they are such as a record can hold
+pub record-writes-back : (file : List ℕ) (n : ℕ) → Bytes file → recordRead file ≡ Record n
+    → (recordFile (casesIn file) ≡ file) × AllRecordable (casesIn file)
+unfolding recordFile casesIn countIn
+record-writes-back file n bytes e =
+    let c = record-count file n e .0 in
+    let s = cases-stand file casesMost restAt 0 n c in
+    let h = rw sub-zero at s in
+    let f = record-sound file (record-taken file n e .0) .0 in
+    rw c (rw (h .0) (file-back file bytes f), h .1)

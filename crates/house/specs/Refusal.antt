@@ -44,3 +44,12 @@ checked (refused r) = Checked-type.the-variants.Refused r
 abbrev pub answered : Ruling Refusal → ℕ → Answer-type.Answer
 answered fine n = Answer-type.the-variants.Done n
 answered (refused r) n = Answer-type.the-variants.Refused r
+
+-- what a call answers, with what it leaves in the one buffer lent to it
+pub data Written : Type 0 where
+  wrote : Answer-type.Answer → List ℕ → Written
+
+-- a call that writes a buffer: where its rules say nothing it answers the number and leaves the new list; a refusal leaves the old
+abbrev pub writtenOr : Ruling Refusal → ℕ → List ℕ → List ℕ → Written
+writtenOr fine n old new = wrote (Answer-type.the-variants.Done n) new
+writtenOr (refused r) n old new = wrote (Answer-type.the-variants.Refused r) old

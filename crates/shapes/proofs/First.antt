@@ -1,13 +1,15 @@
 -- What `first` finds, and how a loop that goes up by one finds it. Each by induction on the places left.
 -- Assumes nothing.
 use Prim.Native.Nat.{ℕ, zero, suc, _+_, _-_, _≤_, _<_}
-use mathlib.Core.Path.{_≡_, refl}
-use mathlib.Core.Bool.{Bool, true, false, cond}
+use mathlib.Core.Path.{_≡_, refl, sym, ap, _∙_}
+use mathlib.Core.Bool.{Bool, true, false, cond, not, true≢false, false≢true}
 use native.Mathlib.Numerals.{add-one}
 use mathlib.Core.Logic.{_⊎_, inl, inr}
 use native.Mathlib.Nat.{eq-or-lt-of-le}
 use native.Mathlib.Omega.{arith}
-use Rattle.shapes.specs.First.{first}
+use lib.Dec.{eqb, ltb}
+use borrow.Author.Tests.{eq-eqb, ne-eqb, eqb-true, ltb-true, ltb-false, not-true, not-false}
+use Rattle.shapes.specs.First.{first, allTo}
 
 -- the places from `at` to below `n` are one more than those from the next place on
 left-one : (at n : ℕ) → at < n → n - at ≡ suc (n - (at + 1))
@@ -70,3 +72,33 @@ module _ (p : ℕ → Bool) where
       go true e rest s high = absurd (omega arith)
       go false e rest (inl here) high = rw (← here) e
       go false e rest (inr past) high = rest past high
+
+-- the test holds at every place: where no loop finds one at which it fails ..
+pub all-from : (p : ℕ → Bool) (n : ℕ) → ((i : ℕ) → i < n → p i ≡ true) → allTo p n ≡ true
+unfolding allTo
+all-from p n each = go (ltb (first q 0 n) n) refl
+  where
+    q : ℕ → Bool
+    q i = not (p i)
+
+    go : (b : Bool) → ltb (first q 0 n) n ≡ b → eqb (first q 0 n) n ≡ true
+    go true e =
+        let l = ltb-true (first q 0 n) n e in
+        let bad : not (p (first q 0 n)) ≡ true = first-holds q 0 n (omega arith) in
+        absurd (false≢true (sym (not-true (p (first q 0 n)) bad) ∙ each (first q 0 n) l))
+    go false e = eq-eqb (first q 0 n) n (omega (arith, ltb-false (first q 0 n) n e, first-high q 0 n))
+
+-- .. as it does not where it fails at one ..
+pub all-fails : (p : ℕ → Bool) (n i : ℕ) → i < n → p i ≡ false → allTo p n ≡ false
+unfolding allTo
+all-fails p n i l e = ne-eqb (first (λ j. not (p j)) 0 n) n (λ same. absurd (true≢false (ap not (sym e) ∙ good (omega arith))))
+  where
+    good : i < first (λ j. not (p j)) 0 n → not (p i) ≡ false
+    good k = first-before (λ j. not (p j)) 0 n i (omega arith) k
+
+-- .. and where it holds at every place it holds at each
+pub all-at : (p : ℕ → Bool) (n : ℕ) → allTo p n ≡ true → (i : ℕ) → i < n → p i ≡ true
+unfolding allTo
+all-at p n e i l =
+    let same = eqb-true (first (λ j. not (p j)) 0 n) n e in
+    not-false (p i) (first-before (λ j. not (p j)) 0 n i (omega arith) (omega arith))

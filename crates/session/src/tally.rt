@@ -1,0 +1,103 @@
+// Tallies raised and lowered by the replay of a case: each by whether its number's machine misses the case.
+use crate::layout::CELLS;
+use crate::layout::PLACES;
+use crate::layout::head_of;
+use diagnosis::is_missed;
+use machine::head::Head;
+ghost use mathlib.Core.Path.{_≡_};
+ghost use Prim.Native.Nat.{ℕ, _-_, _≤_, _<_};
+ghost use lib.ListN.{length, getD};
+ghost use lib.Dec.{leb};
+ghost use mathlib.Core.Bool.{_&&_};
+ghost use Rattle.shapes.specs.First.{allTo};
+ghost use Rattle.shapes.specs.Keep.{bit};
+ghost use Rattle.machine.specs.Head.{numbers};
+ghost use Rattle.machine.specs.Cell.{TableIn};
+ghost use Rattle.machine.specs.Case.{CaseIn};
+ghost use Rattle.diagnosis.specs.Diagnosis.{misses};
+ghost use Rattle.session.specs.Layout.{sessionSize, talliesSize, headOf, cellsOf};
+ghost use Rattle.session.specs.Calls.{miss, raised, lowered};
+
+// 1 where a number's machine misses a case, else 0.
+fn missed(head: Head, cells: &[u8], number: usize, inputs: &[u8], outputs: &[u8]) -> u16
+    requires { ⌜ TableIn head (now cells) ⌝ }
+    requires { ⌜ number < numbers head ⌝ }
+    requires { ⌜ CaseIn head (now inputs) (now outputs) ⌝ }
+    ensures { λ r. ⌜ (r ≡ bit (misses head (now (cells .entry)) number (record { inputs = now (inputs .entry); outputs = now (outputs .entry) }))) × (r ≤ 1) ⌝ }
+{
+    is_missed(head, cells, number, inputs, outputs) as u16
+}
+
+// Counts a case into the tallies.
+pub fn raise(session: &[u8], tallies: &mut [u16], inputs: &[u8], outputs: &[u8])
+    requires { ⌜ (sessionSize ≤ length (now session)) × (talliesSize ≤ length (now tallies)) ⌝ }
+    requires { ⌜ TableIn (headOf (now session)) (cellsOf (now session)) ⌝ }
+    requires { ⌜ CaseIn (headOf (now session)) (now inputs) (now outputs) ⌝ }
+    requires { ⌜ ((f : ℕ) → f < numbers (headOf (now session)) → getD (now tallies) f 0 < 65535) ⌝ }
+    ensures { λ _. ⌜ now (tallies .exit) ≡ raised (now (session .entry)) (record { inputs = now (inputs .entry); outputs = now (outputs .entry) }) (now (tallies .entry)) ⌝ }
+{
+    let head = head_of(session);
+    let count = head.numbers();
+    let cells = &session[CELLS..PLACES];
+    let mut number = 0;
+    while number < count {
+        tallies[number] = tallies[number] + missed(head, cells, number, inputs, outputs);
+        number += 1;
+    }
+}
+
+// Counts a case out of the tallies.
+pub fn lower(session: &[u8], tallies: &mut [u16], inputs: &[u8], outputs: &[u8])
+    requires { ⌜ (sessionSize ≤ length (now session)) × (talliesSize ≤ length (now tallies)) ⌝ }
+    requires { ⌜ TableIn (headOf (now session)) (cellsOf (now session)) ⌝ }
+    requires { ⌜ CaseIn (headOf (now session)) (now inputs) (now outputs) ⌝ }
+    requires { ⌜ ((f : ℕ) → f < numbers (headOf (now session)) → miss (now session) (record { inputs = now inputs; outputs = now outputs }) f ≤ getD (now tallies) f 0) ⌝ }
+    ensures { λ _. ⌜ now (tallies .exit) ≡ lowered (now (session .entry)) (record { inputs = now (inputs .entry); outputs = now (outputs .entry) }) (now (tallies .entry)) ⌝ }
+{
+    let head = head_of(session);
+    let count = head.numbers();
+    let cells = &session[CELLS..PLACES];
+    let mut number = 0;
+    while number < count {
+        tallies[number] = tallies[number] - missed(head, cells, number, inputs, outputs);
+        number += 1;
+    }
+}
+
+// Whether one tally can lose a case: it does not go below 0, nor stay above the cases left.
+fn is_fair(tally: usize, miss: usize, left: usize) -> bool
+    requires { ⌜ miss ≤ 1 ⌝ }
+    ensures { λ r. ⌜ r ≡ (leb miss tally && leb (tally - miss) left) ⌝ }
+{
+    if tally < miss {
+        return false;
+    }
+    tally - miss <= left
+}
+
+// Whether every tally can lose a case, with so many cases left.
+pub fn can_lower(
+    session: &[u8],
+    tallies: &[u16],
+    inputs: &[u8],
+    outputs: &[u8],
+    left: usize,
+) -> bool
+    requires { ⌜ (sessionSize ≤ length (now session)) × (talliesSize ≤ length (now tallies)) ⌝ }
+    requires { ⌜ TableIn (headOf (now session)) (cellsOf (now session)) ⌝ }
+    requires { ⌜ CaseIn (headOf (now session)) (now inputs) (now outputs) ⌝ }
+    ensures { λ r. ⌜ r ≡ allTo (λ f. leb (miss (now (session .entry)) (record { inputs = now (inputs .entry); outputs = now (outputs .entry) }) f) (getD (now (tallies .entry)) f 0) && leb (getD (now (tallies .entry)) f 0 - miss (now (session .entry)) (record { inputs = now (inputs .entry); outputs = now (outputs .entry) }) f) left) (numbers (headOf (now (session .entry)))) ⌝ }
+{
+    let head = head_of(session);
+    let count = head.numbers();
+    let cells = &session[CELLS..PLACES];
+    let mut number = 0;
+    while number < count {
+        let miss = missed(head, cells, number, inputs, outputs) as usize;
+        if !is_fair(tallies[number] as usize, miss, left) {
+            return false;
+        }
+        number += 1;
+    }
+    true
+}

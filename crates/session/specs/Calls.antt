@@ -114,12 +114,12 @@ unfoldable pub casesRules : Head → List Case → List (Rule Refusal)
 casesRules h [] = []
 casesRules h (c ∷ cs) = caseRules h c ++ casesRules h cs
 
+-- then FULL: "fewer free places than cases to add"
+unfoldable pub roomForRules : List ℕ → List Case → List (Rule Refusal)
+roomForRules s cs = casesRules (headOf s) cs ++ (when (ltb (placesMost - length (cases s)) (length cs)) Full ∷ [])
+
 unfoldable pub loadRules : List ℕ → List ℕ → List ℕ → List (Rule Refusal)
-loadRules s t file =
-    formRules s t
-    ++ (recordRules file
-    ++ (casesRules (headOf s) (casesIn file)
-    ++ (when (ltb (placesMost - length (cases s)) (length (casesIn file))) Full ∷ [])))
+loadRules s t file = formRules s t ++ (recordRules file ++ roomForRules s (casesIn file))
 
 unfoldable pub loadCall : List ℕ → List ℕ → List ℕ → Outcome
 loadCall s t file =

@@ -12,6 +12,7 @@ use Rattle.machine.specs.Limits.{stepsMost}
 use Rattle.machine.specs.Head.{goodHead, cellCount, numbers}
 use Rattle.machine.specs.Cell.{firstBad, TableIn}
 use Rattle.machine.specs.Case.{Case, goodCase, CaseIn}
+use Rattle.diagnosis.specs.Diagnosis.{tally}
 use Rattle.session.specs.Layout.{placesMost, cellsAt, cellsRoom, sessionSize, talliesSize, headOf, cellsOf, placeAt, stepsOf, isHeld, caseOf, cases}
 
 -- n, k, m in range, cells as under CELL and zeros after
@@ -50,3 +51,7 @@ pub record Formed (s t : List ℕ) : Type 0 where
   pub session-room : sessionSize ≤ length s
   pub tallies-room : talliesSize ≤ length t
   pub form : wellFormed s t ≡ true
+
+-- every tally in use counts the held cases that its number's machine doesn't reproduce
+abbrev pub TrueTallies : List ℕ → List ℕ → Type 0
+TrueTallies s t = (f : ℕ) → f < numbers (headOf s) → getD t f 0 ≡ tally (headOf s) (cellsOf s) (cases s) f

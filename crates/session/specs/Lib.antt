@@ -1,3 +1,5 @@
 pub mod Layout
 pub mod Form
 pub mod Calls
+pub mod Reads
+pub mod History

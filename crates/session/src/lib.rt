@@ -8,3 +8,7 @@ pub mod form;
 pub mod store;
 // Tallies raised and lowered by the replay of a case.
 pub mod tally;
+// The calls that change a session.
+pub mod calls;
+// The calls that read one.
+pub mod read;

@@ -209,13 +209,13 @@ pub fn mark_executed(head: Head, cells: &[u8], inputs: &[u8], out: &mut [u8])
     ensures { λ _. ⌜ now (out .exit) ≡ marked (executed (specified head (now (cells .entry))) (now (inputs .entry))) (now (out .entry)) ⌝ }
 {
     let mut state = INITIAL;
-    let mut step = 0;
-    while step < inputs.len() {
-        let input = byte(inputs, step);
+    let mut walked = 0;
+    while walked < inputs.len() {
+        let input = byte(inputs, walked);
         let cell = cell_of(head, state, input);
         out[cell] = out[cell] % 2 + 2;
         let to = specified_move(head, cells, state, input);
         state = to.next;
-        step += 1;
+        walked += 1;
     }
 }

@@ -102,3 +102,13 @@ unfolding allTo
 all-at p n e i l =
     let same = eqb-true (first (λ j. not (p j)) 0 n) n e in
     not-false (p i) (first-before (λ j. not (p j)) 0 n i (omega arith) (omega arith))
+
+-- two tests that agree at every place hold at every place both, or neither does
+pub all-same : (p q : ℕ → Bool) (n : ℕ) → ((i : ℕ) → i < n → p i ≡ q i) → allTo p n ≡ allTo q n
+all-same p q n each = go (allTo p n) refl (allTo q n) refl
+  where
+    go : (a : Bool) → allTo p n ≡ a → (b : Bool) → allTo q n ≡ b → allTo p n ≡ allTo q n
+    go true e true k = e ∙ sym k
+    go true e false k = absurd (false≢true (sym k ∙ all-from q n (λ i l. sym (each i l) ∙ all-at p n e i l)))
+    go false e true k = absurd (false≢true (sym e ∙ all-from p n (λ i l. each i l ∙ all-at q n k i l)))
+    go false e false k = e ∙ sym k

@@ -10,10 +10,10 @@ use Rattle.machine.proofs.replay.mark_executed.Statement.{statement}
 use Rattle.machine.proofs.replay.mark_executed.Tie as tie
 
 abbrev Inv-loop : tie.InvT-loop
-Inv-loop head cells inputs out₀ state₀ step₀ out state step = Marking head (specified head cells) inputs out₀ step state out
+Inv-loop head cells inputs out₀ state₀ walked₀ out state walked = Marking head (specified head cells) inputs out₀ walked state out
 
 abbrev μ-loop : tie.MeasureT-loop
-μ-loop head cells inputs out₀ state₀ step₀ out state step = length inputs - step
+μ-loop head cells inputs out₀ state₀ walked₀ out state walked = length inputs - walked
 
 loop-holds : tie.Need-loop-holds Inv-loop μ-loop
 loop-holds c = marking-begins _ _ _ _ (c .before .before .before .pre .0 .head)
@@ -36,8 +36,8 @@ slice-write-out c = omega arith
 specified-move-requires : tie.Need-specified-move-requires Inv-loop μ-loop
 specified-move-requires c κs = (c .before .before .before .before .before .before .before .before .pre .0, (c .before .before .before .before .loop .inv .state-in, rw (c .before .before .byte .ensures .0) (c .before .before .before .before .before .before .before .before .pre .1 .0 _ (c .before .before .before .loop-test .taken))))
 
-add-step : tie.Need-add-step Inv-loop μ-loop
-add-step c = omega arith
+add-walked : tie.Need-add-walked Inv-loop μ-loop
+add-walked c = omega arith
 
 loop-less : tie.Need-loop-less Inv-loop μ-loop
 loop-less c = omega arith
@@ -65,7 +65,7 @@ mark-executed-spec =
     add-out
     slice-write-out
     specified-move-requires
-    add-step
+    add-walked
     loop-less
     loop-again
     same-length

@@ -1,0 +1,79 @@
+-- The built-in constants hold the paper's cells, and a loop that stores two numbers a turn writes them.
+-- Assumes nothing.
+use Prim.Native.Nat.{ℕ, zero, suc, _+_, _*_}
+use mathlib.Core.Path.{_≡_, refl, sym}
+use mathlib.Core.List.{List, [], _∷_}
+use native.Mathlib.Omega.{arith}
+use lib.ListN.{length, getD, set}
+use Rattle.shapes.specs.Edit.{edit, filled}
+use Rattle.shapes.proofs.Edit.{edit-none, edit-turn, length-edit}
+use Rattle.machine.specs.Head.{cellCount}
+use Rattle.house.specs.Table.{cellsAt}
+use Rattle.product.specs.Tables.{headOf, cellsOf}
+use Rattle.product.specs.declared.Entry.{Entry}
+use Rattle.product.specs.declared.Model.{Model}
+use Rattle.product.specs.declared.Model.the-variants.{FiveLitre, EightLitre}
+
+-- twice the next number
+twice : (i : ℕ) → 2 * suc i ≡ suc (suc (2 * i))
+twice i = omega arith
+
+twice-next : (i : ℕ) → 2 * suc i + 1 ≡ suc (suc (2 * i + 1))
+twice-next i = omega arith
+
+-- numbers as entries, next state before output
+abbrev pub paired : List ℕ → List Entry
+paired [] = []
+paired (a ∷ []) = record { next = a; output = 0 } ∷ []
+paired (a ∷ b ∷ l) = record { next = a; output = b } ∷ paired l
+
+-- an entry holds the two numbers at twice its place
+abbrev pub Holds : Entry → List ℕ → ℕ → Type 0
+Holds e cells i = (e .next ≡ getD cells (2 * i) 0) × (e .output ≡ getD cells (2 * i + 1) 0)
+
+-- entry i of numbers as entries does
+paired-holds : (cells : List ℕ) (i : ℕ) → Holds (getD (paired cells) i (record { next = 0; output = 0 })) cells i
+paired-holds [] i = (refl, refl)
+paired-holds (a ∷ []) zero = (refl, refl)
+paired-holds (a ∷ []) (suc i) = (rw (twice i), rw (twice-next i))
+paired-holds (a ∷ b ∷ l) zero = (refl, refl)
+paired-holds (a ∷ b ∷ l) (suc i) = let h = paired-holds l i in (rw (twice i) (h .0), rw (twice-next i) (h .1))
+
+-- so a constant that is a model's cells as entries holds these
+pub entry-held : {m told : Model} (i : ℕ) → m ≡ told → Holds (getD (paired (cellsOf told)) i (record { next = 0; output = 0 })) (cellsOf m) i
+entry-held {told = told} i e = rw e (paired-holds (cellsOf told) i)
+
+-- a model's cells have two numbers each
+pub cells-even : (m : Model) → 2 * cellCount (headOf m) ≡ length (cellsOf m)
+cells-even FiveLitre = refl
+cells-even EightLitre = refl
+
+-- the first n numbers of a model's cells written where they stand
+pub putTo : Model → ℕ → List ℕ → List ℕ
+putTo m n l = edit (λ i old. getD (cellsOf m) i 0) cellsAt n l
+
+module _ (m : Model) (l : List ℕ) where
+  -- a loop's start: none is written
+  pub put-none : l ≡ putTo m 0 l
+  unfolding putTo edit
+  put-none = sym (edit-none (λ i old. getD (cellsOf m) i 0) cellsAt l)
+
+  -- the length stays
+  pub put-length : (n : ℕ) → length (putTo m n l) ≡ length l
+  unfolding putTo edit
+  put-length n = length-edit (λ i old. getD (cellsOf m) i 0) cellsAt n l
+
+  -- a loop's turn: two numbers more are stored
+  pub put-turn : {done : List ℕ} (cell : ℕ) {a b : ℕ} → done ≡ putTo m (2 * cell) l → a ≡ getD (cellsOf m) (2 * cell) 0
+      → b ≡ getD (cellsOf m) (2 * cell + 1) 0
+      → set (set done (cellsAt + 2 * cell) a) (cellsAt + 2 * cell + 1) b ≡ putTo m (2 * (cell + 1)) l
+  unfolding putTo edit
+  put-turn cell e ea eb =
+      let first = edit-turn (λ i old. getD (cellsOf m) i 0) cellsAt (2 * cell) l _ _ _ e refl ea in
+      let n : 2 * (cell + 1) ≡ 2 * cell + 1 + 1 = omega arith in
+      rw n (edit-turn (λ i old. getD (cellsOf m) i 0) cellsAt (2 * cell + 1) l _ _ _ first (omega arith) eb)
+
+  -- a loop's end: all are written
+  pub put-all : {last : List ℕ} (cell : ℕ) → last ≡ putTo m (2 * cell) l → cell ≡ cellCount (headOf m) → last ≡ filled l cellsAt (cellsOf m)
+  unfolding putTo filled
+  put-all cell e n = rw (e, n, cells-even m)

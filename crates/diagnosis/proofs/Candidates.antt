@@ -1,7 +1,7 @@
 -- The candidate law: where a case fails and a number's machine reproduces it, the number's cell was executed up to the first symptom. For
 -- until its cell is executed the number's machine gives the specified outputs, and at the first symptom these are not the observed one.
 -- Assumes nothing.
-use Prim.Native.Nat.{ℕ, _+_, _≤_, _<_}
+use Prim.Native.Nat.{ℕ, _+_, _<_}
 use mathlib.Core.Path.{_≡_, refl, sym, ap, _∙_}
 use mathlib.Core.List.{List, [], _∷_}
 use mathlib.Core.Bool.{Bool, true, false, not, _&&_, _||_, true≢false}
@@ -9,12 +9,12 @@ use native.Mathlib.Omega.{arith}
 use lib.ListN.{length, getD, take}
 use lib.Seq.{getD-take}
 use borrow.Author.Tests.{not-true}
-use Rattle.shapes.specs.Keep.{has, every, some}
+use Rattle.shapes.specs.Keep.{has, every}
 use Rattle.shapes.proofs.Tests.{and-true}
 use Rattle.machine.specs.Machine.{Machine, specified}
 use Rattle.machine.specs.Fault.{cellOf, changed, isFault}
-use Rattle.machine.specs.Case.{Case, goodCase}
-use Rattle.machine.specs.Run.{agrees, executed, expected, symptomsOf, reproduces}
+use Rattle.machine.specs.Case.{Case}
+use Rattle.machine.specs.Run.{executed, expected, symptomsOf, reproduces}
 use Rattle.machine.specs.declared.head.Head.{Head}
 use Rattle.machine.proofs.Cases.{case-in}
 use Rattle.machine.proofs.Run.{expected-until, first-step, first-differs, reproduces-agrees}

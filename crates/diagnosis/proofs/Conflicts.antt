@@ -1,24 +1,24 @@
 -- Marking what a failing case executes up to its first symptom, and keeping only what was marked, leaves of candidates those in its
 -- conflict set. Assumes nothing.
-use Prim.Native.Nat.{ℕ, zero, suc, _+_, _%_, _≤_, _<_}
+use Prim.Native.Nat.{ℕ, zero, suc, _+_, _%_, _≤_, _<_, min}
 use mathlib.Core.Path.{_≡_, refl, sym, ap, _∙_}
 use mathlib.Core.List.{List}
 use mathlib.Core.Bool.{Bool, true, false, cond, not, _&&_}
 use native.Mathlib.Nat.{zero-add, mul-le-mul}
 use native.Mathlib.Omega.{arith}
 use lib.Dec.{eqb}
-use lib.ListN.{length, getD, take}
-use lib.Seq.{getD-take, length-take-le}
-use borrow.Author.Tests.{eqb-false, eq-eqb, ne-eqb, not-true}
+use lib.ListN.{length, getD, take, length-take}
+use lib.Seq.{getD-take}
+use borrow.Author.Tests.{eq-eqb, ne-eqb, not-true}
 use Rattle.shapes.specs.Edit.{edit}
 use Rattle.shapes.specs.Keep.{has, bit}
 use Rattle.shapes.proofs.Edit.{edit-kept, edit-ext, length-edit, edit-in, edit-out-above}
-use Rattle.machine.specs.Limits.{cellsMost, stepsMost}
+use Rattle.machine.specs.Limits.{cellsMost}
 use Rattle.machine.specs.Head.{cellCount}
 use Rattle.machine.specs.Cell.{TableIn}
 use Rattle.machine.specs.Machine.{Machine, specified}
 use Rattle.machine.specs.Case.{Case, CaseIn, InputsIn}
-use Rattle.machine.specs.Run.{executed, marked, symptomsOf, reproduces}
+use Rattle.machine.specs.Run.{executed, marked, symptomsOf}
 use Rattle.machine.specs.declared.head.Head.{Head}
 use Rattle.machine.specs.declared.replay.Symptoms.{Symptoms}
 use Rattle.machine.proofs.Cases.{case-step}
@@ -48,10 +48,11 @@ a-symptom M c s e some =
     (bad, rw e (first-inside M c bad))
 
 -- the first inputs of a case are a head's
-pub inputs-in : (h : Head) (is ys : List ℕ) → CaseIn h is ys → (t : ℕ) → t ≤ length is → InputsIn h (take t is)
-inputs-in h is ys k t l j below =
-    let m : j < t = omega (arith, length-take-le t is l) in
-    rw (getD-take t is j 0 m) (case-step h is ys k j (omega arith) .0)
+pub input-in : (h : Head) (is ys : List ℕ) → CaseIn h is ys → (n t : ℕ) → t < min n (length is) → getD (take n is) t 0 < h .inputs
+input-in h is ys k n t below = rw (getD-take n is t 0 (omega arith)) (case-step h is ys k t (omega arith) .0)
+
+inputs-in : (h : Head) (is ys : List ℕ) → CaseIn h is ys → (n : ℕ) → InputsIn h (take n is)
+inputs-in h is ys k n t below = input-in h is ys k n t (rw length-take at below)
 
 -- of a 0 or 1 that was marked the sweep leaves what it was, and of another nothing
 swept-marked : (v : ℕ) → v ≤ 1 → swept (v % 2 + 2) ≡ v
@@ -96,7 +97,7 @@ narrows h cells t c k out bits bad =
         absurd
         (omega (
           arith,
-          executed-in h cells t (take at (c .inputs)) (inputs-in h (c .inputs) (c .outputs) k at (first-inside M c bad)) j e,
+          executed-in h cells t (take at (c .inputs)) (inputs-in h (c .inputs) (c .outputs) k at) j e,
           cells-few,
         ))
     absent j l false e = refl

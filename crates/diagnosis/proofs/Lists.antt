@@ -1,23 +1,20 @@
 -- Demand 2: what is listed, what the tallies say of the list, and what each verdict says. From the laws of `keepTo`, `count`, `every` and `some`.
 -- Assumes nothing.
-use Prim.Native.Nat.{ℕ, zero, suc, _+_, _≤_, _<_}
-use mathlib.Core.Path.{_≡_, refl, sym, ap, _∙_}
+use Prim.Native.Nat.{ℕ, _+_, _≤_, _<_}
+use mathlib.Core.Path.{_≡_, refl, sym, _∙_}
 use mathlib.Core.List.{List, [], _∷_, _++_}
-use mathlib.Core.Bool.{Bool, true, false, not, _&&_, _||_, true≢false, false≢true}
+use mathlib.Core.Bool.{Bool, true, false, _&&_, _||_, true≢false}
 use mathlib.Core.Logic.{_↔_}
 use native.Mathlib.Omega.{arith}
 use lib.Dec.{eqb, ltb}
 use borrow.Author.Tests.{eq-eqb}
-use Rattle.shapes.specs.Keep.{keepTo, has, bit, count, every, some, Rising}
-use Rattle.shapes.proofs.Keep.{kept, kept-rising, keep-same, count-among, every-count, every-among}
-use Rattle.shapes.proofs.Tests.{and-true}
+use Rattle.shapes.specs.Keep.{keepTo, has, bit, count, Rising}
+use Rattle.shapes.proofs.Keep.{kept, kept-rising, keep-same, count-among, every-count}
 use Rattle.machine.specs.Head.{numbers}
-use Rattle.machine.specs.Machine.{specified}
 use Rattle.machine.specs.Fault.{changed, alters, faultOf, isFault}
 use Rattle.machine.specs.Case.{Case}
 use Rattle.machine.specs.declared.head.Head.{Head}
 use Rattle.diagnosis.specs.Diagnosis.{explains, fails, misses, tally, explainsAll, isListed, list, someFails, verdictOf}
-use Rattle.diagnosis.specs.declared.Verdict.{Verdict}
 use Rattle.diagnosis.specs.declared.Verdict.the-variants as verdicts
 
 module _ (h : Head) (cells : List ℕ) (cs : List Case) where
@@ -83,6 +80,21 @@ module _ (h : Head) (cells : List ℕ) (cs : List Case) where
       go true [] e = (refl, refl)
       go true (x ∷ l) e = (refl, cc)
 
+  -- FOUND exactly if some case fails and the list isn't empty
+  pub found-exactly : (verdictOf (someFails h cells cs) (list h cells cs) ≡ verdicts.Found)
+      ↔ ((someFails h cells cs ≡ true) × ((list h cells cs ≡ []) → ⊥))
+  found-exactly = (go (someFails h cells cs) (list h cells cs), λ p. back (someFails h cells cs) (list h cells cs) (p .0) (p .1))
+    where
+      go : (b : Bool) (l : List ℕ) → verdictOf b l ≡ verdicts.Found → (b ≡ true) × ((l ≡ []) → ⊥)
+      go false l e = let z : _≡_ {A = ℕ} 0 1 = cc in absurd (omega arith)
+      go true [] e = let z : _≡_ {A = ℕ} 0 1 = cc in absurd (omega arith)
+      go true (x ∷ l) e = (refl, λ none. let z : _≡_ {A = ℕ} 0 1 = cc in omega arith)
+
+      back : (b : Bool) (l : List ℕ) → b ≡ true → ((l ≡ []) → ⊥) → verdictOf b l ≡ verdicts.Found
+      back false l e some = cc
+      back true [] e some = absurd (some refl)
+      back true (x ∷ l) e some = refl
+
 -- one case more or less moves a tally by at most one, wherever it stands
 pub tally-one : (h : Head) (cells : List ℕ) (l : List Case) (c : Case) (r : List Case) (f : ℕ)
     → (tally h cells (l ++ r) f ≤ tally h cells (l ++ (c ∷ r)) f) × (tally h cells (l ++ (c ∷ r)) f ≤ tally h cells (l ++ r) f + 1)
@@ -94,3 +106,12 @@ tally-one h cells l c r f = go (misses h cells f c) (count-among (misses h cells
         × (count (misses h cells f) (l ++ (c ∷ r)) ≤ count (misses h cells f) (l ++ r) + 1)
     go true e = (omega arith, omega arith)
     go false e = (omega arith, omega arith)
+
+-- one case amended moves no tally by more than one
+pub tally-changed : (h : Head) (cells : List ℕ) (l : List Case) (c d : Case) (r : List Case) (f : ℕ)
+    → (tally h cells (l ++ (c ∷ r)) f ≤ tally h cells (l ++ (d ∷ r)) f + 1)
+    × (tally h cells (l ++ (d ∷ r)) f ≤ tally h cells (l ++ (c ∷ r)) f + 1)
+tally-changed h cells l c d r f =
+    let old = tally-one h cells l c r f in
+    let new = tally-one h cells l d r f in
+    (omega arith, omega arith)

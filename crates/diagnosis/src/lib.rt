@@ -9,7 +9,6 @@ ghost use mathlib.Core.Path.{_≡_};
 ghost use Prim.Native.Nat.{_<_, _≤_};
 ghost use lib.ListN.{length};
 ghost use Rattle.shapes.specs.Edit.{edit};
-ghost use Rattle.shapes.specs.Keep.{bit};
 ghost use Rattle.machine.specs.Limits.{cellsMost};
 ghost use Rattle.machine.specs.Head.{numbers};
 ghost use Rattle.machine.specs.Cell.{TableIn};

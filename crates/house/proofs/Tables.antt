@@ -199,7 +199,7 @@ file-of-table h cells l =
     rw e
 
 -- a head within the limits passes its test
-head-good : (h : Head) → HeadIn h → goodHead h ≡ true
+pub head-good : (h : Head) → HeadIn h → goodHead h ≡ true
 unfolding goodHead
 head-good h k =
     rw

@@ -6,4 +6,3 @@ pub mod Run
 pub mod Replayed
 pub mod Marks
 pub mod Answers
-pub mod Examples

@@ -73,6 +73,12 @@ module _ (p : ℕ → Bool) where
       go false e rest (inl here) high = rw (← here) e
       go false e rest (inr past) high = rest past high
 
+-- tests that agree on the places looked at find the same place
+pub first-same : (p q : ℕ → Bool) (at left : ℕ) → ((i : ℕ) → at ≤ i → i < at + left → p i ≡ q i) → first p at left ≡ first q at left
+unfolding first
+first-same p q at zero e = refl
+first-same p q at (suc left) e = rw (e at (omega arith) (omega arith), first-same p q (suc at) left (λ i l k. e i (omega arith) (omega arith)))
+
 -- the test holds at every place: where no loop finds one at which it fails ..
 pub all-from : (p : ℕ → Bool) (n : ℕ) → ((i : ℕ) → i < n → p i ≡ true) → allTo p n ≡ true
 unfolding allTo
@@ -103,12 +109,7 @@ all-at p n e i l =
     let same = eqb-true (first (λ j. not (p j)) 0 n) n e in
     not-false (p i) (first-before (λ j. not (p j)) 0 n i (omega arith) (omega arith))
 
--- two tests that agree at every place hold at every place both, or neither does
+-- tests that agree at every place hold at every place both, or neither does
 pub all-same : (p q : ℕ → Bool) (n : ℕ) → ((i : ℕ) → i < n → p i ≡ q i) → allTo p n ≡ allTo q n
-all-same p q n each = go (allTo p n) refl (allTo q n) refl
-  where
-    go : (a : Bool) → allTo p n ≡ a → (b : Bool) → allTo q n ≡ b → allTo p n ≡ allTo q n
-    go true e true k = e ∙ sym k
-    go true e false k = absurd (false≢true (sym k ∙ all-from q n (λ i l. sym (each i l) ∙ all-at p n e i l)))
-    go false e true k = absurd (false≢true (sym e ∙ all-from p n (λ i l. each i l ∙ all-at q n k i l)))
-    go false e false k = e ∙ sym k
+unfolding allTo
+all-same p q n each = rw (first-same (λ i. not (p i)) (λ i. not (q i)) 0 n (λ i low l. ap not (each i (omega arith))))

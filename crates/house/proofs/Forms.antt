@@ -1,15 +1,14 @@
 -- What a check's answer says of its rules' ruling, and what a file is that the rules for every file do not refuse.
 -- Assumes nothing.
-use Prim.Native.Nat.{ℕ, suc, _+_, _-_, _/_, _%_, _≤_}
+use Prim.Native.Nat.{ℕ, _-_, _/_, _%_, _≤_}
 use mathlib.Core.Path.{_≡_, refl, sym}
-use mathlib.Core.List.{List, _∷_}
+use mathlib.Core.List.{List}
 use borrow.Author.Tests.{ltb-false, eqb-true, not-false, le-ltb, eq-eqb}
-use native.Mathlib.Numerals.{add-one, add-two, add-three}
 use native.Mathlib.Omega.{arith}
 use lib.ListN.{length, getD, drop, length-drop}
-use lib.Seq.{drop-cons}
 use Rattle.shapes.specs.Refusals.{Ruling, fine, refused, ruling}
 use Rattle.shapes.proofs.Refusals.{fine-when}
+use Rattle.shapes.proofs.Edit.{drop-three}
 use Rattle.house.specs.Bytes.{Bytes}
 use Rattle.house.specs.File.{version, restAt, twoBytes, fileRules, fileHead, fileOf}
 use Rattle.house.specs.Refusal.{checked}
@@ -44,11 +43,6 @@ file-fine file l v n = rw (le-ltb _ _ l, v, n, eq-eqb (length file - restAt) _ r
 pub file-of-fine : (rest : List ℕ) → ruling (fileRules (fileOf rest)) ≡ fine
 unfolding fileOf fileHead
 file-of-fine rest = file-fine (fileOf rest) (omega arith) refl (omega arith)
-
--- a list from a place on, with its first three entries named
-pub drop-three : (l : List ℕ) (at : ℕ) → at + 3 ≤ length l → drop at l ≡ getD l at 0 ∷ getD l (at + 1) 0 ∷ getD l (at + 2) 0 ∷ drop (at + 3) l
-drop-three l at h =
-    rw (add-one, add-two, add-three, drop-cons l at 0 (omega arith), drop-cons l (suc at) 0 (omega arith), drop-cons l (suc (suc at)) 0 (omega arith))
 
 -- a file of bytes that is not refused is the file made of its rest
 pub file-of-rest : (file : List ℕ) → Bytes file → ruling (fileRules file) ≡ fine → fileOf (drop restAt file) ≡ file

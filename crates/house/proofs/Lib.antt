@@ -3,3 +3,5 @@ pub mod Tables
 pub mod Records
 pub mod Places
 pub mod Retests
+pub mod Against
+pub mod Answers

@@ -2,131 +2,79 @@
 -- after the last is the file's end. By induction on the position, along `countFrom`.
 -- Assumes nothing.
 use Prim.Native.Nat.{ℕ, zero, suc, _+_, _*_, _≤_, _<_}
-use mathlib.Core.Path.{_≡_, refl}
-use mathlib.Core.Bool.{Bool, true, false, cond}
+use mathlib.Core.Path.{_≡_}
+use mathlib.Core.Bool.{true}
 use mathlib.Core.Logic.{_⊎_, inl, inr}
 use mathlib.Core.List.{List}
-use borrow.Author.Tests.{ltb-false, leb-true}
-use lib.Dec.{leb}
 use lib.ListN.{length, getD}
 use native.Mathlib.Nat.{eq-or-lt-of-le}
 use native.Mathlib.Numerals.{add-one}
 use native.Mathlib.Omega.{arith}
 use Rattle.shapes.specs.Refusals.{ruling, fine}
-use Rattle.shapes.proofs.Refusals.{fine-when, ruling-joined}
-use Rattle.shapes.proofs.Tests.{and-true}
-use Rattle.machine.specs.Limits.{stepsMost}
-use Rattle.machine.specs.Head.{within}
-use Rattle.house.specs.File.{restAt, fileRules}
-use Rattle.house.specs.Cases.{stepsAt, caseFits, caseEnd, countFrom, countIn, countOf, isBroken, recordRules}
+use Rattle.house.specs.Cases.{caseFits, caseEnd, countFrom, countIn, countOf, recordRules}
 use Rattle.house.specs.Retest.{placeOf}
-use Rattle.house.specs.declared.cases.Counted.{Counted}
-use Rattle.house.specs.declared.cases.Counted.the-variants.{Cases, Broken}
+use Rattle.house.specs.declared.cases.Counted.the-variants.{Cases}
+use Rattle.house.proofs.Forms.{file-known}
+use Rattle.house.proofs.Records.{case-fits, counted-last, counted-next, count-bounds, record-sound}
 
 -- a loop's turn: the place after the case at a place
 pub place-next : (file : List ℕ) (i at x : ℕ) → at ≡ placeOf file i → x ≡ getD file at 0 → at + 1 + 2 * x ≡ placeOf file (i + 1)
 unfolding placeOf
 place-next file i at x h e = rw (e, h, add-one i)
 
--- a case that fits ends within the file
-fits-end : (file : List ℕ) (at : ℕ) → caseFits file at ≡ true → caseEnd file at ≤ length file
-unfolding caseFits
-fits-end file at e = leb-true (caseEnd file at) (length file) (and-true (within (stepsAt file at) stepsMost) _ e .1)
-
--- a count is no less than what was counted before
-counted-low : (file : List ℕ) (left at n m : ℕ) → countFrom file left at n ≡ Cases m → n ≤ m
-unfolding countFrom
-counted-low file zero at n m = go (leb (length file) at)
-  where
-    go : (b : Bool) → cond b (Cases n) Broken ≡ Cases m → n ≤ m
-    go true e = let s : n ≡ m = cc in omega arith
-    go false e = let z : _≡_ {A = ℕ} 0 1 = cc in absurd (omega arith)
-counted-low file (suc left) at n m = go (leb (length file) at) (caseFits file at) (counted-low file left (caseEnd file at) (suc n) m)
-  where
-    go : (b f : Bool) → (countFrom file left (caseEnd file at) (suc n) ≡ Cases m → suc n ≤ m)
-        → cond b (Cases n) (cond f (countFrom file left (caseEnd file at) (suc n)) Broken) ≡ Cases m → n ≤ m
-    go true f rest e = let s : n ≡ m = cc in omega arith
-    go false true rest e = let s = rest e in omega arith
-    go false false rest e = let z : _≡_ {A = ℕ} 0 1 = cc in absurd (omega arith)
-
 -- where more are to be counted a case fits here, and the count goes on after it
 counted-more : (file : List ℕ) (left at n m : ℕ) → countFrom file left at n ≡ Cases m → n < m
     → (caseFits file at ≡ true) × ((rest : ℕ) × (countFrom file rest (caseEnd file at) (suc n) ≡ Cases m))
-unfolding countFrom
-counted-more file zero at n m = go (leb (length file) at)
+counted-more file zero at n m e h = let k = counted-last file at n m e in absurd (omega arith)
+counted-more file (suc left) at n m e h = go (counted-next file left at n m e)
   where
-    go : (b : Bool) → cond b (Cases n) Broken ≡ Cases m → n < m
+    go : ((length file ≤ at) × (n ≡ m)) ⊎ ((caseFits file at ≡ true) × (countFrom file left (caseEnd file at) (suc n) ≡ Cases m))
         → (caseFits file at ≡ true) × ((rest : ℕ) × (countFrom file rest (caseEnd file at) (suc n) ≡ Cases m))
-    go true e h = let s : n ≡ m = cc in absurd (omega arith)
-    go false e h = let z : _≡_ {A = ℕ} 0 1 = cc in absurd (omega arith)
-counted-more file (suc left) at n m = go (leb (length file) at) (caseFits file at) refl
-  where
-    go : (b f : Bool) → caseFits file at ≡ f → cond b (Cases n) (cond f (countFrom file left (caseEnd file at) (suc n)) Broken) ≡ Cases m → n < m
-        → (caseFits file at ≡ true) × ((rest : ℕ) × (countFrom file rest (caseEnd file at) (suc n) ≡ Cases m))
-    go true f q e h = let s : n ≡ m = cc in absurd (omega arith)
-    go false true q e h = (q, (left, e))
-    go false false q e h = let z : _≡_ {A = ℕ} 0 1 = cc in absurd (omega arith)
+    go (inl k) = absurd (omega arith)
+    go (inr k) = (k .0, (left, k .1))
 
 -- where no more are to be counted this is the end
 counted-all : (file : List ℕ) (left at n : ℕ) → countFrom file left at n ≡ Cases n → length file ≤ at
-unfolding countFrom
-counted-all file zero at n = go (leb (length file) at) refl
+counted-all file zero at n e = counted-last file at n n e .0
+counted-all file (suc left) at n e = go (counted-next file left at n n e)
   where
-    go : (b : Bool) → leb (length file) at ≡ b → cond b (Cases n) Broken ≡ Cases n → length file ≤ at
-    go true q e = leb-true _ _ q
-    go false q e = let z : _≡_ {A = ℕ} 0 1 = cc in absurd (omega arith)
-counted-all file (suc left) at n = go (leb (length file) at) (caseFits file at) refl
-  where
-    go : (b f : Bool) → leb (length file) at ≡ b
-        → cond b (Cases n) (cond f (countFrom file left (caseEnd file at) (suc n)) Broken) ≡ Cases n → length file ≤ at
-    go true f q e = leb-true _ _ q
-    go false true q e = let s = counted-low file left (caseEnd file at) (suc n) n e in absurd (omega arith)
-    go false false q e = let z : _≡_ {A = ℕ} 0 1 = cc in absurd (omega arith)
+    go : ((length file ≤ at) × (n ≡ n)) ⊎ ((caseFits file at ≡ true) × (countFrom file left (caseEnd file at) (suc n) ≡ Cases n)) → length file ≤ at
+    go (inl k) = k .0
+    go (inr k) = let b = count-bounds file left (caseEnd file at) (suc n) n (k .1) in absurd (omega arith)
 
 -- from each place up to the count the rest is counted to the same
-walk : (file : List ℕ) (n : ℕ) → countIn file ≡ Cases n → (i : ℕ) → i ≤ n → (left : ℕ) × (countFrom file left (placeOf file i) i ≡ Cases n)
+counted-from : (file : List ℕ) (n : ℕ) → countIn file ≡ Cases n → (i : ℕ) → i ≤ n → (left : ℕ) × (countFrom file left (placeOf file i) i ≡ Cases n)
 unfolding countIn placeOf
-walk file n e zero h = (_, e)
-walk file n e (suc i) h =
-    let w = walk file n e i (omega arith) in
+counted-from file n e zero h = (_, e)
+counted-from file n e (suc i) h =
+    let w = counted-from file n e i (omega arith) in
     counted-more file (w .0) (placeOf file i) i n (w .1) h .1
 
--- a count that is not broken is a count
-count-told : (c : Counted) → isBroken c ≡ false → c ≡ Cases (countOf c)
-count-told (Cases n) e = refl
-count-told Broken e = cc
-
 module _ (file : List ℕ) (ok : ruling (recordRules file) ≡ fine) where
-  -- a record whose rules say nothing has its three first bytes
-  record-starts : 3 ≤ length file
-  unfolding recordRules fileRules
-  record-starts = ltb-false (length file) restAt (fine-when (fileRules file) .0 (ruling-joined (fileRules file) _ ok .0) .0)
-
-  -- and a count
+  -- a record whose rules say nothing has a count
   record-counts : countIn file ≡ Cases (countOf (countIn file))
-  unfolding recordRules
-  record-counts = count-told (countIn file) (fine-when _ .0 (ruling-joined (fileRules file) _ ok .1) .0)
+  record-counts = record-sound file ok .1
 
   -- a place short of the count holds a whole case
   pub place-fits : (i : ℕ) → i < countOf (countIn file) → caseFits file (placeOf file i) ≡ true
   place-fits i h =
-      let w = walk file _ record-counts i (omega arith) in
+      let w = counted-from file _ record-counts i (omega arith) in
       counted-more file (w .0) (placeOf file i) i _ (w .1) h .0
 
   -- which ends within the file
   pub place-ends : (i : ℕ) → i < countOf (countIn file) → caseEnd file (placeOf file i) ≤ length file
-  place-ends i h = fits-end file (placeOf file i) (place-fits i h)
+  place-ends i h = case-fits file (placeOf file i) (place-fits i h) .1 .1
 
   -- each place up to the count is in the file
   place-low : (i : ℕ) → i ≤ countOf (countIn file) → placeOf file i ≤ length file
   unfolding placeOf
-  place-low zero h = record-starts
+  place-low zero h = file-known file (record-sound file ok .0) .0
   place-low (suc i) h = place-ends i h
 
   -- and the place after the last case is its end
   pub place-last : placeOf file (countOf (countIn file)) ≡ length file
   place-last =
-      let w = walk file _ record-counts (countOf (countIn file)) (omega arith) in
+      let w = counted-from file _ record-counts (countOf (countIn file)) (omega arith) in
       let low = place-low (countOf (countIn file)) (omega arith) in
       let high = counted-all file (w .0) (placeOf file (countOf (countIn file))) _ (w .1) in omega arith
 

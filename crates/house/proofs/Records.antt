@@ -1,35 +1,33 @@
 -- The record file: what stands at its places, what it is refused for, and that cases written as a record read back as those cases.
 -- Assumes nothing.
-use Prim.Native.Nat.{ℕ, zero, suc, _+_, _-_, _*_, _/_, _%_, _≤_, _<_}
+use Prim.Native.Nat.{ℕ, zero, suc, _+_, _-_, _*_, _≤_, _<_}
 use mathlib.Core.Path.{_≡_, refl, sym, ap, _∙_}
-use mathlib.Core.Logic.{_↔_}
+use mathlib.Core.Logic.{_↔_, _⊎_, inl, inr}
 use mathlib.Core.List.{List, [], _∷_, _++_, append-nil, append-assoc}
-use mathlib.Core.Bool.{Bool, true, false, cond, not, true≢false}
+use mathlib.Core.Bool.{Bool, true, false, cond}
 use native.Mathlib.Nat.{zero-add, add-zero, sub-zero}
 use native.Mathlib.Numerals.{add-one}
 use native.Mathlib.Omega.{arith}
-use borrow.Author.Tests.{lt-ltb, le-ltb, le-leb, lt-leb, leb-true, leb-false, eq-eqb, eqb-true, not-false}
+use borrow.Author.Tests.{lt-ltb, le-ltb, le-leb, lt-leb, leb-true, leb-false}
 use lib.Dec.{ltb, leb}
-use lib.ListN.{length, take, drop, set, length-set, length-append, length-drop, take-append-drop, drop-of-length-le}
+use lib.ListN.{length, take, drop, set, length-append, length-drop, take-append-drop, drop-of-length-le}
 use lib.Seq.{length-take-le, drop-cons, drop-drop, take-append-seam, drop-append-add, getD-append-seam, take-at, drop-at}
-use Rattle.shapes.specs.Edit.{edit, filled}
-use Rattle.shapes.proofs.Edit.{length-filled, filled-append}
-use Rattle.shapes.specs.Refusals.{Rule, when, Ruling, fine, refused, ruling, AllFalse, RefusedBy}
-use Rattle.shapes.proofs.Refusals.{ruling-join-refused, ruling-join-fine, refused-when, fine-when}
+use Rattle.shapes.specs.Edit.{filled}
+use Rattle.shapes.proofs.Edit.{filled-one, filled-append}
+use Rattle.shapes.specs.Refusals.{Ruling, fine, refused, ruling, AllFalse, RefusedBy}
+use Rattle.shapes.proofs.Refusals.{ruling-join-refused, ruling-join-fine, ruling-joined, refused-when, fine-when}
 use Rattle.shapes.proofs.Tests.{and-true}
 use Rattle.machine.specs.Limits.{stepsMost}
-use Rattle.house.specs.Refusal.{checked}
-use Rattle.house.specs.File.{version, restAt, fileRules, fileHead, fileOf}
+use Rattle.house.specs.File.{restAt, fileRules, fileHead, fileOf}
 use Rattle.house.specs.Bytes.{Bytes}
 use Rattle.machine.specs.Case.{Case}
 use Rattle.house.specs.Cases.{caseBytes, restOf, recordFile, Recordable, AllRecordable, caseAt, casesFrom, casesIn, casesMost, stepsAt, caseEnd, caseFits, countFrom, countIn, isBroken, countOf, recordRules, recordOr, recordRead}
 use Rattle.house.specs.declared.refusal.Refusal.{Refusal}
 use Rattle.house.specs.declared.refusal.Refusal as Refusal-type
-use Rattle.house.specs.declared.refusal.Checked as Checked-type
 use Rattle.house.specs.declared.cases.RecordFile.the-variants.{Record, Refused}
 use Rattle.house.specs.declared.cases.Counted.{Counted}
 use Rattle.house.specs.declared.cases.Counted.the-variants.{Cases, Broken}
-use Rattle.house.proofs.Forms.{checked-fine, checked-refused}
+use Rattle.house.proofs.Forms.{file-of-fine, file-of-rest}
 
 -- the code's test that a case ends within the file is the definition's
 pub ends-within : (at steps n : ℕ) → ltb (2 * steps) (n - at) ≡ leb (at + 1 + 2 * steps) n
@@ -82,15 +80,6 @@ pub count-turn : (file : List ℕ) (at n : ℕ) → n < casesMost → at < lengt
     → countFrom file (casesMost - n) at n ≡ countFrom file (casesMost - (n + 1)) (caseEnd file at) (n + 1)
 count-turn file at n few h e = let d : 64 - n ≡ suc (64 - (n + 1)) = omega arith in rw (d, count-more, add-one n)
 
--- one number written is one store
-filled-one : (l : List ℕ) (at x : ℕ) → filled l at (x ∷ []) ≡ set l at x
-unfolding filled edit
-filled-one l at x = rw add-zero
-
--- a store and a write keep the length
-pub length-stored : (out l : List ℕ) (at x place : ℕ) (v : List ℕ) → l ≡ filled (set out at x) place v → length l ≡ length out
-length-stored out l at x place v e = rw (e, length-filled, length-set)
-
 -- the length byte stored, then the inputs written and the outputs after them: the case is written
 pub case-written : (out one two : List ℕ) (at : ℕ) (c : Case) → one ≡ filled (set out at (length (c .inputs))) (at + 1) (c .inputs)
     → two ≡ filled one (at + 1 + length (c .inputs)) (c .outputs) → two ≡ filled out at (caseBytes c)
@@ -100,84 +89,106 @@ case-written out one two at c d e =
     rw (e, d, filled-append (set out at n) (at + 1) (c .inputs) (c .outputs), ← filled-one out at n)
     (filled-append out at (n ∷ []) (c .inputs ++ c .outputs))
 
--- what every file is refused for, a record is refused for
-pub read-refused : (file : List ℕ) (r : Refusal) → checked (ruling (fileRules file)) ≡ Checked-type.the-variants.Refused r → Refused r ≡ recordRead file
-unfolding recordRead recordRules
-read-refused file r e = rw (ruling-join-refused (fileRules file) _ r (checked-refused _ e))
+module _ (file : List ℕ) where
+  -- a file that the rules for every file refuse is refused so
+  pub read-refused : {r : Refusal} → ruling (fileRules file) ≡ refused r → recordRead file ≡ Refused r
+  unfolding recordRead recordRules
+  read-refused e = rw (ruling-join-refused (fileRules file) _ _ e)
 
--- a file whose cases are broken is refused for that
-pub read-broken : (file : List ℕ) → checked (ruling (fileRules file)) ≡ Checked-type.the-variants.Fine → countIn file ≡ Broken
-    → Refused Refusal-type.the-variants.Record ≡ recordRead file
-unfolding recordRead recordRules ruling
-read-broken file e d = rw (ruling-join-fine (fileRules file) _ (checked-fine _ e), d)
+  -- a file that those let pass is refused where its cases are broken,
+  pub read-broken : ruling (fileRules file) ≡ fine → countIn file ≡ Broken → recordRead file ≡ Refused Refusal-type.the-variants.Record
+  unfolding recordRead recordRules ruling
+  read-broken e d = rw (ruling-join-fine (fileRules file) _ e, d)
 
--- any other is a record, with the cases counted
-pub read-counted : (file : List ℕ) (n : ℕ) → checked (ruling (fileRules file)) ≡ Checked-type.the-variants.Fine → countIn file ≡ Cases n
-    → Record n ≡ recordRead file
-unfolding recordRead recordRules ruling
-read-counted file n e d = rw (ruling-join-fine (fileRules file) _ (checked-fine _ e), d)
+  -- else it is a record, with the cases counted
+  pub read-counted : {n : ℕ} → ruling (fileRules file) ≡ fine → countIn file ≡ Cases n → recordRead file ≡ Record n
+  unfolding recordRead recordRules ruling
+  read-counted e d = rw (ruling-join-fine (fileRules file) _ e, d)
 
--- what the answer for a record file says of its ruling
-or-refused : (v : Ruling Refusal) (m : ℕ) (r : Refusal) → (recordOr v m ≡ Refused r) ↔ (v ≡ refused r)
-or-refused fine m r = (λ e. cc, λ e. cc)
-or-refused (refused q) m r = (λ e. cc, λ e. cc)
+-- an answer that refuses says what the rules refuse with,
+or-refused : (v : Ruling Refusal) (m : ℕ) {r : Refusal} → recordOr v m ≡ Refused r → v ≡ refused r
+or-refused fine m e = cc
+or-refused (refused q) m e = cc
 
--- and what the answer of a count says
-or-taken : (v : Ruling Refusal) (m n : ℕ) → recordOr v m ≡ Record n → (v ≡ fine) × (n ≡ m)
-or-taken fine m n e = (refl, cc)
-or-taken (refused q) m n e = (cc, cc)
+-- and one of a count says that no rule refuses
+or-counted : (v : Ruling Refusal) (m : ℕ) {n : ℕ} → recordOr v m ≡ Record n → (v ≡ fine) × (n ≡ m)
+or-counted fine m e = (refl, cc)
+or-counted (refused q) m e = (cc, cc)
 
--- a record file is refused with r exactly if the first of its rules whose test is true is one of r
-pub record-refused : (file : List ℕ) (r : Refusal) → (recordRead file ≡ Refused r) ↔ RefusedBy (recordRules file) r
-unfolding recordRead
-record-refused file r =
-    let v = or-refused (ruling (recordRules file)) (countOf (countIn file)) r in
-    let w = refused-when (recordRules file) r in
-    (λ e. w .0 (v .0 e), λ h. v .1 (w .1 h))
+module _ (file : List ℕ) where
+  -- a record that is refused is refused by its rules
+  pub rules-refuse : {r : Refusal} → recordRead file ≡ Refused r → ruling (recordRules file) ≡ refused r
+  unfolding recordRead
+  rules-refuse e = or-refused _ _ e
 
--- one that is taken breaks none of its rules, and what is answered is the count of its cases
-pub record-taken : (file : List ℕ) (n : ℕ) → recordRead file ≡ Record n → AllFalse (recordRules file) × (n ≡ countOf (countIn file))
-unfolding recordRead
-record-taken file n e =
-    let t = or-taken (ruling (recordRules file)) (countOf (countIn file)) n e in
-    (fine-when (recordRules file) .0 (t .0), t .1)
+  -- one that is taken is refused by none, and what is answered is the count of its cases
+  pub rules-pass : {n : ℕ} → recordRead file ≡ Record n → (ruling (recordRules file) ≡ fine) × (n ≡ countOf (countIn file))
+  unfolding recordRead
+  rules-pass e = or-counted _ _ e
 
--- where the tests of two lists of rules are false together, they are false in each
-pub all-false-join : {R : Type 0} (l m : List (Rule R)) → AllFalse (l ++ m) → AllFalse l × AllFalse m
-all-false-join [] m h = (tt, h)
-all-false-join (when t r ∷ l) m h = let rest = all-false-join l m (h .1) in ((h .0, rest .0), rest .1)
+  -- a record is refused with r exactly if the first of its rules that holds is one of r
+  pub record-refused : (r : Refusal) → (recordRead file ≡ Refused r) ↔ RefusedBy (recordRules file) r
+  unfolding recordRead
+  record-refused r = (
+    λ e. refused-when (recordRules file) r .0 (rules-refuse e),
+    λ h. let e = refused-when (recordRules file) r .1 h in rw e,
+  )
 
--- a record that no rule refuses is a file that none refuses, and not broken
-pub record-sound : (file : List ℕ) → AllFalse (recordRules file) → AllFalse (fileRules file) × (countIn file ≡ Cases (countOf (countIn file)))
-unfolding recordRules
-record-sound file h = let j = all-false-join (fileRules file) _ h in (j .0, go (countIn file) (j .1 .0))
+  -- where a record is taken none of its rules holds, and what is answered is the count of its cases
+  pub record-taken : (n : ℕ) → recordRead file ≡ Record n → (AllFalse (recordRules file)) × (n ≡ countOf (countIn file))
+  record-taken n e = let t = rules-pass e in (fine-when (recordRules file) .0 (t .0), t .1)
+
+  -- a record that its rules do not refuse is a file that is not refused, and its cases are counted
+  pub record-sound : ruling (recordRules file) ≡ fine → (ruling (fileRules file) ≡ fine) × (countIn file ≡ Cases (countOf (countIn file)))
+  unfolding recordRules
+  record-sound e = let j = ruling-joined (fileRules file) _ e in (j .0, go (countIn file) (fine-when _ .0 (j .1) .0))
+    where
+      go : (c : Counted) → isBroken c ≡ false → c ≡ Cases (countOf c)
+      go (Cases n) e = refl
+      go Broken e = cc
+
+-- a count that was made where no case may be left was made at the end,
+pub counted-last : (file : List ℕ) (at n m : ℕ) → countFrom file zero at n ≡ Cases m → (length file ≤ at) × (n ≡ m)
+unfolding countFrom
+counted-last file at n m = go (leb (length file) at) refl
   where
-    go : (c : Counted) → isBroken c ≡ false → c ≡ Cases (countOf c)
-    go (Cases n) e = refl
-    go Broken e = cc
+    go : (b : Bool) → leb (length file) at ≡ b → cond b (Cases n) Broken ≡ Cases m → (length file ≤ at) × (n ≡ m)
+    go true past e = (leb-true _ _ past, cc)
+    go false past e = let z : _≡_ {A = ℕ} 0 1 = cc in absurd (omega arith)
+
+-- and where some may be left, at the end or before a case that fits
+pub counted-next : (file : List ℕ) (left at n m : ℕ) → countFrom file (suc left) at n ≡ Cases m
+    → ((length file ≤ at) × (n ≡ m)) ⊎ ((caseFits file at ≡ true) × (countFrom file left (caseEnd file at) (suc n) ≡ Cases m))
+unfolding countFrom
+counted-next file left at n m = go (leb (length file) at) (caseFits file at) refl refl
+  where
+    more : Counted
+    more = countFrom file left (caseEnd file at) (suc n)
+
+    go : (b f : Bool) → leb (length file) at ≡ b → caseFits file at ≡ f → cond b (Cases n) (cond f more Broken) ≡ Cases m
+        → ((length file ≤ at) × (n ≡ m)) ⊎ ((caseFits file at ≡ true) × (more ≡ Cases m))
+    go true f past fits e = inl (leb-true _ _ past, cc)
+    go false true past fits e = inr (fits, e)
+    go false false past fits e = let z : _≡_ {A = ℕ} 0 1 = cc in absurd (omega arith)
 
 -- a count goes up from where it began, and by no more than what may be left
 pub count-bounds : (file : List ℕ) (left at n m : ℕ) → countFrom file left at n ≡ Cases m → (n ≤ m) × (m ≤ n + left)
-unfolding countFrom
-count-bounds file zero at n m = go (leb (length file) at)
+count-bounds file zero at n m e = let k = counted-last file at n m e in omega arith
+count-bounds file (suc left) at n m e = go (counted-next file left at n m e) (count-bounds file left (caseEnd file at) (suc n) m)
   where
-    go : (b : Bool) → cond b (Cases n) Broken ≡ Cases m → (n ≤ m) × (m ≤ n + 0)
-    go true e = let d : n ≡ m = cc in omega arith
-    go false e = let z : _≡_ {A = ℕ} 0 1 = cc in absurd (omega arith)
-count-bounds file (suc left) at n m =
-    go (leb (length file) at) (caseFits file at) (count-bounds file left (caseEnd file at) (suc n) m)
-  where
-    go : (b f : Bool) → (countFrom file left (caseEnd file at) (suc n) ≡ Cases m → (suc n ≤ m) × (m ≤ suc n + left))
-        → cond b (Cases n) (cond f (countFrom file left (caseEnd file at) (suc n)) Broken) ≡ Cases m → (n ≤ m) × (m ≤ n + suc left)
-    go true f rest e = let d : n ≡ m = cc in omega arith
-    go false true rest e = let r = rest e in omega arith
-    go false false rest e = let z : _≡_ {A = ℕ} 0 1 = cc in absurd (omega arith)
+    more : Counted
+    more = countFrom file left (caseEnd file at) (suc n)
+
+    go : ((length file ≤ at) × (n ≡ m)) ⊎ ((caseFits file at ≡ true) × (more ≡ Cases m))
+        → (more ≡ Cases m → (suc n ≤ m) × (m ≤ suc n + left)) → (n ≤ m) × (m ≤ n + suc left)
+    go (inl k) rest = omega arith
+    go (inr k) rest = let r = rest (k .1) in omega arith
 
 -- a record that is taken has the count of cases that is answered, and they are at most 64
 pub record-count : (file : List ℕ) (n : ℕ) → recordRead file ≡ Record n → (countIn file ≡ Cases n) × (n ≤ casesMost)
 unfolding countIn
 record-count file n e =
-    let t = record-taken file n e in
+    let t = rules-pass file e in
     let c : countIn file ≡ Cases n = rw (t .1) (record-sound file (t .0) .1) in
     (c, omega (arith, count-bounds file casesMost restAt 0 n c))
 
@@ -245,52 +256,19 @@ count-written (c ∷ cs) pre (suc left) n ok few =
     rw (w, written-end pre c (restOf cs) (ok .0), d) (rw append-assoc at e)
 
 -- .. and are those that stand there
-pub cases-written : (cs : List Case) (pre : List ℕ) → AllRecordable cs → casesFrom (pre ++ restOf cs) (length cs) (length pre) ≡ cs
+cases-written : (cs : List Case) (pre : List ℕ) → AllRecordable cs → casesFrom (pre ++ restOf cs) (length cs) (length pre) ≡ cs
 unfolding restOf casesFrom
 cases-written [] pre ok = refl
 cases-written (c ∷ cs) pre ok =
     let e = cases-written cs (pre ++ caseBytes c) (ok .1) in
     rw (written-case pre c (restOf cs) (ok .0), written-end pre c (restOf cs) (ok .0)) (ap (λ l. c ∷ l) (rw append-assoc at e))
 
--- cases that a record can hold have at most 129 bytes each
-pub rest-length : (cs : List Case) → AllRecordable cs → length (restOf cs) ≤ 129 * length cs
-unfolding restOf
-rest-length [] ok = omega arith
-rest-length (c ∷ cs) ok =
-    let rest = rest-length cs (ok .1) in
-    let e = length-append (caseBytes c) (restOf cs) in
-    let d = length-bytes c in omega (arith, ok .0)
-
--- so two bytes hold the length of a record's rest
-pub rest-small : (cs : List Case) → length cs ≤ casesMost → AllRecordable cs → length (restOf cs) < 65536
-rest-small cs few ok = omega (arith, rest-length cs ok)
-
--- the first three bytes before a rest are those of a house file
-file-written : (rest : List ℕ) → AllFalse (fileRules (fileOf rest))
-unfolding fileRules fileOf fileHead
-file-written rest =
-    let n : ℕ = length rest in
-    (le-ltb (suc (suc (suc n))) 3 (omega arith), (refl, (ap not (eq-eqb (n / 256 * 256 + n % 256) (suc (suc (suc n)) - 3) (omega arith)), tt)))
-
--- and a house file of bytes is its rest after the three bytes that say how long that is
-file-back : (file : List ℕ) → Bytes file → AllFalse (fileRules file) → fileOf (drop restAt file) ≡ file
-unfolding fileRules fileOf fileHead
-file-back [] bytes h = absurd (true≢false (h .0))
-file-back (a ∷ []) bytes h = absurd (true≢false (h .0))
-file-back (a ∷ b ∷ []) bytes h = absurd (true≢false (h .0))
-file-back (a ∷ b ∷ c ∷ rest) bytes h =
-    let first = eqb-true a version (not-false _ (h .1 .0)) in
-    let size = eqb-true (b * 256 + c) (suc (suc (suc (length rest))) - restAt) (not-false _ (h .1 .1 .0)) in
-    let low : c < 256 = bytes 2 (omega arith) in
-    let q : length rest / 256 ≡ b = omega arith in
-    let r : length rest % 256 ≡ c = omega arith in rw (q, r, first)
-
 -- a record written from cases reads back as those cases, in order
 pub record-reads-back : (cs : List Case) → length cs ≤ casesMost → AllRecordable cs
     → (recordRead (recordFile cs) ≡ Record (length cs)) × (casesIn (recordFile cs) ≡ cs)
 unfolding recordFile casesIn countIn fileOf fileHead
 record-reads-back cs few ok =
-    (sym (read-counted (recordFile cs) (length cs) (rw (fine-when (fileRules (recordFile cs)) .1 (file-written (restOf cs)))) count), rw count (cases-written cs (fileHead (length (restOf cs))) ok))
+    (read-counted (recordFile cs) (file-of-fine (restOf cs)) count, rw count (cases-written cs (fileHead (length (restOf cs))) ok))
   where
     count : countIn (recordFile cs) ≡ Cases (length cs)
     count = rw zero-add at (count-written cs (fileHead (length (restOf cs))) casesMost 0 ok few)
@@ -344,27 +322,17 @@ stand-more file at n m fits few h =
     rw d (rw (h .0) (case-there file at fits), (case-recordable file at fits, h .1))
 
 -- the cases that are counted from a place on stand from there to the end
-pub cases-stand : (file : List ℕ) (left at n m : ℕ) → countFrom file left at n ≡ Cases m → Stand file at (casesFrom file (m - n) at)
-unfolding countFrom
-cases-stand file zero at n m = go (leb (length file) at) refl
-  where
-    go : (b : Bool) → leb (length file) at ≡ b → cond b (Cases n) Broken ≡ Cases m → Stand file at (casesFrom file (m - n) at)
-    go true past e = stand-ended file at n m (leb-true _ _ past) (cc)
-    go false past e = let z : _≡_ {A = ℕ} 0 1 = cc in absurd (omega arith)
-cases-stand file (suc left) at n m =
-    go (leb (length file) at) (caseFits file at) refl refl
-    (λ e. count-bounds file left (caseEnd file at) (suc n) m e .0)
-    (cases-stand file left (caseEnd file at) (suc n) m)
+cases-stand : (file : List ℕ) (left at n m : ℕ) → countFrom file left at n ≡ Cases m → Stand file at (casesFrom file (m - n) at)
+cases-stand file zero at n m e = let k = counted-last file at n m e in stand-ended file at n m (k .0) (k .1)
+cases-stand file (suc left) at n m e = go (counted-next file left at n m e) (cases-stand file left (caseEnd file at) (suc n) m)
   where
     more : Counted
     more = countFrom file left (caseEnd file at) (suc n)
 
-    go : (b f : Bool) → leb (length file) at ≡ b → caseFits file at ≡ f → (more ≡ Cases m → n < m)
-        → (more ≡ Cases m → Stand file (caseEnd file at) (casesFrom file (m - suc n) (caseEnd file at)))
-        → cond b (Cases n) (cond f more Broken) ≡ Cases m → Stand file at (casesFrom file (m - n) at)
-    go true f past fits few rest e = stand-ended file at n m (leb-true _ _ past) (cc)
-    go false true past fits few rest e = stand-more file at n m fits (few e) (rest e)
-    go false false past fits few rest e = let z : _≡_ {A = ℕ} 0 1 = cc in absurd (omega arith)
+    go : ((length file ≤ at) × (n ≡ m)) ⊎ ((caseFits file at ≡ true) × (more ≡ Cases m))
+        → (more ≡ Cases m → Stand file (caseEnd file at) (casesFrom file (m - suc n) (caseEnd file at))) → Stand file at (casesFrom file (m - n) at)
+    go (inl k) rest = stand-ended file at n m (k .0) (k .1)
+    go (inr k) rest = stand-more file at n m (k .0) (count-bounds file left (caseEnd file at) (suc n) m (k .1) .0) (rest (k .1))
 
 -- every record that is taken is the writing of its cases, and they are such as a record can hold
 pub record-writes-back : (file : List ℕ) (n : ℕ) → Bytes file → recordRead file ≡ Record n
@@ -374,5 +342,5 @@ record-writes-back file n bytes e =
     let c = record-count file n e .0 in
     let s = cases-stand file casesMost restAt 0 n c in
     let h = rw sub-zero at s in
-    let f = record-sound file (record-taken file n e .0) .0 in
-    rw c (rw (h .0) (file-back file bytes f), h .1)
+    let f = record-sound file (rules-pass file e .0) .0 in
+    rw c (rw (h .0) (file-of-rest file bytes f), h .1)

@@ -15,11 +15,9 @@ use Rattle.shapes.specs.First.{first}
 use Rattle.shapes.specs.Refusals.{when, Ruling, ruling, fine, refused, AllFalse, RefusedBy}
 use Rattle.shapes.proofs.First.{first-turn, first-found, first-ended, first-high}
 use Rattle.shapes.proofs.Refusals.{refused-when, fine-when, ruling-here, ruling-past, ruling-end, ruling-join-refused, ruling-join-fine, ruling-joined}
-use Rattle.house.specs.Refusal.{checked, numberOf}
-use Rattle.house.specs.Cases.{caseEnd, countIn, countOf, recordRules, recordOr, recordRead}
+use Rattle.house.specs.Refusal.{numberOf}
+use Rattle.house.specs.Cases.{caseEnd, countIn, countOf, recordRules}
 use Rattle.house.specs.Retest.{placeOf, sameInput, sameInputs, matchOf, retestRules, caseIn, picked, retested, retestNumber}
-use Rattle.house.specs.declared.cases.RecordFile as RecordFile-type
-use Rattle.house.specs.declared.refusal.Checked as Checked-type
 use Rattle.house.specs.declared.refusal.Refusal.{Refusal}
 use Rattle.house.specs.declared.refusal.Refusal.the-variants.{Slot}
 use Rattle.house.proofs.Places.{place-next, place-ends, place-inside, place-past}
@@ -111,32 +109,12 @@ module _ (a : List ℕ) (p : ℕ) (b : List ℕ) where
         let l = place-past b ok (s .position) (s .few) (rw (s .here) at h) in
         s .here ∙ ap (placeOf b) (sym (first-ended _ _ _ (omega arith)) ∙ s .rest)
 
--- a record that was refused is refused by its rules
-pub record-refused : (file : List ℕ) {r : Refusal} → recordRead file ≡ RecordFile-type.the-variants.Refused r → ruling (recordRules file) ≡ refused r
-unfolding recordRead
-record-refused file {r} = go (ruling (recordRules file))
-  where
-    go : (v : Ruling Refusal) → recordOr v (countOf (countIn file)) ≡ RecordFile-type.the-variants.Refused r → v ≡ refused r
-    go fine e = cc
-    go (refused q) e = cc
-
--- and one that was read is not, and has so many cases
-pub record-counted : (file : List ℕ) {n : ℕ} → recordRead file ≡ RecordFile-type.the-variants.Record n
-    → (ruling (recordRules file) ≡ fine) × (countOf (countIn file) ≡ n)
-unfolding recordRead
-record-counted file {n} = go (ruling (recordRules file))
-  where
-    go : (v : Ruling Refusal) → recordOr v (countOf (countIn file)) ≡ RecordFile-type.the-variants.Record n
-        → (v ≡ fine) × (countOf (countIn file) ≡ n)
-    go fine e = (refl, cc)
-    go (refused q) e = let z : _≡_ {A = ℕ} 0 1 = cc in absurd (omega arith)
-
 -- the bytes of a case, as the code takes them
-part : (file : List ℕ) (at x : ℕ) → x ≡ getD file at 0 → take (at + 1 + 2 * x - at) (drop at file) ≡ caseIn file at
-part file at x e =
+part-case : (file : List ℕ) (at x : ℕ) → x ≡ getD file at 0 → take (at + 1 + 2 * x - at) (drop at file) ≡ caseIn file at
+part-case file at x e =
     let d : at + 1 + 2 * x - at ≡ 1 + 2 * x = omega arith in rw (d, e)
 
--- they are not none
+-- they are not empty
 case-some : (file : List ℕ) (at : ℕ) → caseEnd file at ≤ length file → 1 ≤ length (caseIn file at)
 case-some file at h = simp (length-take, length-drop) (omega arith)
 
@@ -164,12 +142,12 @@ module _ (a b : List ℕ) (position : ℕ) where
     rules-last = ruling-join-fine (recordRules a ++ recordRules b) _ (ruling-join-fine (recordRules a) _ e ∙ f)
 
     -- on a position with no case
-    pub rules-slot : {n : ℕ} → countOf (countIn a) ≡ n → n ≤ position → ruling (retestRules a b position) ≡ refused Slot
-    rules-slot c h = rules-last ∙ ruling-here Slot [] (le-leb (countOf (countIn a)) position (rw c h))
+    pub rules-slot : {n : ℕ} → n ≡ countOf (countIn a) → n ≤ position → ruling (retestRules a b position) ≡ refused Slot
+    rules-slot c h = rules-last ∙ ruling-here Slot [] (le-leb (countOf (countIn a)) position (rw (← c) h))
 
     -- or on one with a case
-    pub rules-fine : {n : ℕ} → countOf (countIn a) ≡ n → position < n → ruling (retestRules a b position) ≡ fine
-    rules-fine c h = rules-last ∙ ruling-past Slot [] (lt-leb (countOf (countIn a)) position (rw c h)) ∙ ruling-end
+    pub rules-fine : {n : ℕ} → n ≡ countOf (countIn a) → position < n → ruling (retestRules a b position) ≡ fine
+    rules-fine c h = rules-last ∙ ruling-past Slot [] (lt-leb (countOf (countIn a)) position (rw (← c) h)) ∙ ruling-end
 
   -- so where they say nothing both records are whole and the position has a case
   pub rules-known : ruling (retestRules a b position) ≡ fine
@@ -198,7 +176,7 @@ module _ (a b : List ℕ) (position : ℕ) where
     pub picks-again : (p q x : ℕ) → p ≡ placeOf a position → q ≡ placeOf b (matchOf a p b) → q < length b → x ≡ getD b q 0
         → take (q + 1 + 2 * x - q) (drop q b) ≡ retested a b position
     unfolding retested picked
-    picks-again p q x d e h f = part b q x f ∙ rw (ok, ← d, lt-ltb _ _ (match-inside p q e h), e)
+    picks-again p q x d e h f = part-case b q x f ∙ rw (ok, ← d, lt-ltb _ _ (match-inside p q e h), e)
 
     -- past the retest's end the first record's own
     pub picks-own : (p q x : ℕ) → p ≡ placeOf a position → q ≡ placeOf b (matchOf a p b) → length b ≤ q → x ≡ getD a p 0
@@ -206,7 +184,7 @@ module _ (a b : List ℕ) (position : ℕ) where
     unfolding retested picked
     picks-own p q x d e h f =
         let l = place-past b (rules-known ok .1) (matchOf a p b) (match-high a p b) (rw e at h) in
-        part a p x f ∙ rw (ok, ← d, le-ltb (matchOf a p b) (countOf (countIn b)) (omega arith))
+        part-case a p x f ∙ rw (ok, ← d, le-ltb (matchOf a p b) (countOf (countIn b)) (omega arith))
 
     -- neither is empty
     pub retest-whole : 1 ≤ length (retested a b position)

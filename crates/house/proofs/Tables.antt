@@ -15,9 +15,9 @@ use lib.Seq.{take-all, getD-take, length-take-le}
 use Rattle.shapes.specs.First.{first}
 use Rattle.shapes.proofs.First.{first-high, first-holds, first-before}
 use Rattle.shapes.specs.Edit.{filled}
-use Rattle.shapes.proofs.Edit.{filled-append}
+use Rattle.shapes.proofs.Edit.{filled-append, drop-three}
 use Rattle.shapes.specs.Refusals.{Ruling, fine, refused, ruling, AllFalse, RefusedBy}
-use Rattle.shapes.proofs.Refusals.{ruling-here, ruling-join-refused, ruling-join-fine, refused-when, fine-when}
+use Rattle.shapes.proofs.Refusals.{ruling-here, ruling-join-refused, ruling-join-fine, ruling-joined, refused-when, fine-when}
 use Rattle.shapes.proofs.Tests.{or-false}
 use Rattle.machine.specs.Head.{goodHead, headOf, HeadIn, cellCount}
 use Rattle.machine.specs.Cell.{undefined, badCell, firstBad, TableIn}
@@ -31,7 +31,7 @@ use Rattle.house.specs.Table.{cellsAt, headIn, cellsIn, badSize, badCell
 use Rattle.house.specs.declared.refusal.Refusal.{Refusal}
 use Rattle.house.specs.declared.refusal.Refusal.the-variants.{Size, Cell}
 use Rattle.house.specs.declared.table.TableFile.the-variants.{Table, Refused}
-use Rattle.house.proofs.Forms.{file-of-fine, file-of-rest, drop-three}
+use Rattle.house.proofs.Forms.{file-of-fine, file-of-rest}
 
 -- the head that was made is the one that the file names
 pub record Named (file : List ℕ) (h : Head) : Type 0 where
@@ -148,10 +148,14 @@ table-refused file r = (
   λ h. let e = refused-when (tableRules file) r .1 h in rw e,
 )
 
--- where a table is answered none of its rules holds, and it has the head that the file names
-pub table-taken : (file : List ℕ) (h : Head) → tableRead file ≡ Table h → (AllFalse (tableRules file)) × (h ≡ headIn file)
+-- where a table is answered no rule refuses it, and it has the head that the file names
+rules-pass : (file : List ℕ) (h : Head) → tableRead file ≡ Table h → (ruling (tableRules file) ≡ fine) × (h ≡ headIn file)
 unfolding tableRead
-table-taken file h e = let t = or-taken _ _ e in (fine-when (tableRules file) .0 (t .0), t .1)
+rules-pass file h e = or-taken _ _ e
+
+-- so none of its rules holds
+pub table-taken : (file : List ℕ) (h : Head) → tableRead file ≡ Table h → (AllFalse (tableRules file)) × (h ≡ headIn file)
+table-taken file h e = let t = rules-pass file h e in (fine-when (tableRules file) .0 (t .0), t .1)
 
 -- a file that SIZE does not refuse names a head and ends with its cells
 size-known : (file : List ℕ) → badSize file ≡ false → (goodHead (headIn file) ≡ true) × (length file ≡ tableBytes (headIn file))
@@ -186,9 +190,8 @@ table-known file h e =
 
 -- and the rules for every file do not refuse it
 table-fine : (file : List ℕ) (h : Head) → tableRead file ≡ Table h → ruling (fileRules file) ≡ fine
-unfolding tableRules fileRules
-table-fine file h e =
-    let a = table-taken file h e .0 in fine-when (fileRules file) .1 (a .0, (a .1 .0, (a .1 .1 .0, tt)))
+unfolding tableRules
+table-fine file h e = ruling-joined (fileRules file) _ (rules-pass file h e .0) .0
 
 -- a table file is the file made of the three numbers and the cells
 file-of-table : (h : Head) (cells : List ℕ) → 2 * cellCount h ≤ length cells

@@ -117,3 +117,8 @@ casesIn file = casesFrom file (countOf (countIn file)) restAt
 -- what is wrong with a case against a head: STEP
 unfoldable pub caseRules : Head → Case → List (Rule Refusal)
 caseRules h c = when (not (goodCase h (c .inputs) (c .outputs))) Step ∷ []
+
+-- what is wrong with the first of some cases that has a fault
+unfoldable pub casesRules : Head → List Case → List (Rule Refusal)
+casesRules h [] = []
+casesRules h (c ∷ cs) = caseRules h c ++ casesRules h cs

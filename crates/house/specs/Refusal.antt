@@ -1,7 +1,7 @@
 -- The paper's number of each refusal and what it carries (document 01, "Refusal numbers"), and what a list of rules makes a call answer.
 use Prim.Native.Nat.{ℕ}
 use mathlib.Core.List.{List}
-use Rattle.shapes.specs.Refusals.{Rule, Ruling, fine, refused, ruling}
+use Rattle.shapes.specs.Refusals.{Ruling, fine, refused}
 use Rattle.house.specs.declared.refusal.Refusal.{Refusal}
 use Rattle.house.specs.declared.refusal.Refusal.the-variants.{Short, Version, Length, Size, Cell, Step, Full, Slot, Damaged, Record, Number}
 use Rattle.house.specs.declared.refusal.Checked as Checked-type

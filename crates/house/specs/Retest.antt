@@ -4,7 +4,7 @@ use Prim.Native.Nat.{ℕ, zero, suc, _+_, _*_}
 use mathlib.Core.List.{List, [], _∷_, _++_}
 use mathlib.Core.Bool.{Bool, cond, not, _&&_}
 use lib.Dec.{eqb, ltb, leb}
-use lib.ListN.{length, getD, take, drop}
+use lib.ListN.{getD, take, drop}
 use Rattle.shapes.specs.First.{first}
 use Rattle.shapes.specs.Refusals.{Rule, when, Ruling, fine, refused, ruling}
 use Rattle.house.specs.Refusal.{numberOf}

@@ -13,11 +13,11 @@ ghost use mathlib.Core.Path.{_≡_};
 ghost use Prim.Native.Nat.{_+_, _*_, _≤_, _<_};
 ghost use lib.ListN.{length};
 ghost use Rattle.shapes.specs.Edit.{filled};
-ghost use Rattle.shapes.specs.Refusals.{ruling};
+ghost use Rattle.shapes.specs.Refusals.{ruling, fine};
 ghost use Rattle.machine.specs.Limits.{stepsMost};
 ghost use Rattle.house.specs.Refusal.{checked};
 ghost use Rattle.house.specs.File.{restAt};
-ghost use Rattle.house.specs.Cases.{caseBytes, caseFits, caseEnd, countIn, recordRead, caseRules, stepAt};
+ghost use Rattle.house.specs.Cases.{caseBytes, caseFits, caseEnd, countIn, recordRead, recordRules, countOf, casesIn, caseRules, casesRules, stepAt};
 
 // A place in a record file, between two cases.
 pub struct Cursor {
@@ -141,6 +141,28 @@ pub fn check_case(head: Head, inputs: &[u8], outputs: &[u8]) -> Checked
 {
     if !is_case(head, inputs, outputs) {
         return Checked::Refused(Refusal::Step);
+    }
+    Checked::Fine
+}
+
+// What is wrong with the first case of a record that has a fault against a head.
+pub fn check_cases(head: Head, file: &[u8], count: usize) -> Checked
+    requires { ⌜ ruling (recordRules (now file)) ≡ fine ⌝ }
+    requires { ⌜ count ≡ countOf (countIn (now file)) ⌝ }
+    ensures { λ r. ⌜ r ≡ checked (ruling (casesRules head (casesIn (now (file .entry))))) ⌝ }
+{
+    let mut at = REST;
+    let mut i = 0;
+    while i < count {
+        let inputs = at + 1;
+        let outputs = inputs + byte(file, at);
+        let end = outputs + byte(file, at);
+        let fault = check_case(head, &file[inputs..outputs], &file[outputs..end]);
+        if let Checked::Refused(refusal) = fault {
+            return Checked::Refused(refusal);
+        }
+        at = end;
+        i += 1;
     }
     Checked::Fine
 }

@@ -50,11 +50,12 @@ fn read_checked(file: &[u8]) -> TableFile
     let MadeHead::Made(head) = made else {
         return TableFile::Refused(Refusal::Size);
     };
-    if file.len() != CELLS + 2 * head.cells() {
+    let count = head.cells();
+    if file.len() != CELLS + 2 * count {
         return TableFile::Refused(Refusal::Size);
     }
     let bad = first_bad(head, &file[CELLS..]);
-    if bad < head.cells() {
+    if bad < count {
         return TableFile::Refused(Refusal::Cell(bad));
     }
     TableFile::Table(head)

@@ -11,10 +11,9 @@ use Rattle.shapes.specs.Keep.{bit}
 use Rattle.shapes.specs.Refusals.{Rule, when, Ruling, fine, refused, ruling}
 use Rattle.machine.specs.Head.{numbers}
 use Rattle.machine.specs.Case.{Case}
-use Rattle.machine.specs.declared.head.Head.{Head}
 use Rattle.house.specs.File.{restAt}
 use Rattle.house.specs.Table.{tableRules}
-use Rattle.house.specs.Cases.{recordRules, casesIn, caseRules, countIn, countOf}
+use Rattle.house.specs.Cases.{recordRules, casesIn, caseRules, casesRules}
 use Rattle.house.specs.declared.refusal.Refusal.{Refusal}
 use Rattle.house.specs.declared.refusal.Refusal.the-variants.{Short, Full, Slot, Damaged}
 use Rattle.house.specs.declared.refusal.Answer as Answer-type
@@ -108,11 +107,6 @@ loadedSession s (c ∷ cs) = loadedSession (placed s (freePlace s) c) cs
 unfoldable pub loadedTallies : List ℕ → List Case → List ℕ → List ℕ
 loadedTallies s [] t = t
 loadedTallies s (c ∷ cs) t = loadedTallies s cs (raised s c t)
-
--- what is wrong with the first of some cases that has a fault
-unfoldable pub casesRules : Head → List Case → List (Rule Refusal)
-casesRules h [] = []
-casesRules h (c ∷ cs) = caseRules h c ++ casesRules h cs
 
 -- then FULL: "fewer free places than cases to add"
 unfoldable pub roomForRules : List ℕ → List Case → List (Rule Refusal)

@@ -14,6 +14,7 @@ use crate::tally::lower;
 use crate::tally::raise;
 use house::cases::RecordFile;
 use house::cases::check_case;
+use house::cases::check_cases;
 use house::cases::read_record;
 use house::file::REST;
 use house::refusal::Answer;
@@ -21,7 +22,6 @@ use house::refusal::Checked;
 use house::refusal::Refusal;
 use house::table::TableFile;
 use house::table::read_table;
-use machine::head::Head;
 use machine::replay::Replay;
 use shapes::byte;
 ghost use mathlib.Core.Path.{_≡_};
@@ -36,7 +36,7 @@ ghost use Rattle.house.specs.Cases.{recordRules, recordOr, casesIn, countIn, co
 ghost use Rattle.diagnosis.specs.Diagnosis.{allGood};
 ghost use Rattle.session.specs.Layout.{placesMost, sessionSize, headOf, caseOf, cases, freePlace, noCase};
 ghost use Rattle.session.specs.Form.{Formed};
-ghost use Rattle.session.specs.Calls.{after, isSlot, miss, canTake, raised, lowered, placed, startRules, startCall, addRules, addCall, slotRules, withdrawRules, withdrawCall, amendRules, amendCall, casesRules, roomForRules, loadRules, loadCall, loadedSession, loadedTallies};
+ghost use Rattle.session.specs.Calls.{after, isSlot, miss, canTake, raised, lowered, placed, startRules, startCall, addRules, addCall, slotRules, withdrawRules, withdrawCall, amendRules, amendCall, roomForRules, loadRules, loadCall, loadedSession, loadedTallies};
 
 // The refusal of a start.
 fn check_start(session: &[u8], tallies: &[u16], file: &[u8]) -> Checked
@@ -246,28 +246,6 @@ pub fn amend(
     raise(session, tallies, inputs, outputs);
     store_case(session, place, inputs, outputs);
     Answer::Done(0)
-}
-
-// What is wrong with the first case of a record that has a fault against a head.
-pub fn check_cases(head: Head, file: &[u8], count: usize) -> Checked
-    requires { ⌜ ruling (recordRules (now file)) ≡ fine ⌝ }
-    requires { ⌜ count ≡ countOf (countIn (now file)) ⌝ }
-    ensures { λ r. ⌜ r ≡ checked (ruling (casesRules head (casesIn (now (file .entry))))) ⌝ }
-{
-    let mut at = REST;
-    let mut i = 0;
-    while i < count {
-        let inputs = at + 1;
-        let outputs = inputs + byte(file, at);
-        let end = outputs + byte(file, at);
-        let fault = check_case(head, &file[inputs..outputs], &file[outputs..end]);
-        if let Checked::Refused(refusal) = fault {
-            return Checked::Refused(refusal);
-        }
-        at = end;
-        i += 1;
-    }
-    Checked::Fine
 }
 
 // The refusal of the cases of a record that a session is to hold.

@@ -1,17 +1,18 @@
--- What `edit` and `filled` change, what they leave, and how a loop that goes up by one makes them.
+-- What `edit` and `filled` change, what they leave, and how a loop that goes up by one makes them; and a list taken apart after three
+-- entries.
 -- Assumes nothing.
 use Prim.Native.Nat.{ℕ, zero, suc, _+_, _-_, _≤_, _<_}
 use mathlib.Core.Path.{_≡_, refl, sym, _∙_}
 use mathlib.Core.Bool.{Bool, true, false}
 use mathlib.Core.Logic.{_⊎_, inl, inr, _≢_}
 use mathlib.Core.List.{List, [], _∷_, _++_}
-use native.Mathlib.Numerals.{add-one}
+use native.Mathlib.Numerals.{add-one, add-two, add-three}
 use native.Mathlib.Nat.{eq-or-lt-of-le, add-zero, add-suc, add-assoc}
 use native.Mathlib.Omega.{arith}
 use lib.Dec.{ltb}
 use borrow.Author.Tests.{ltb-true, ltb-false}
 use lib.ListN.{length, getD, set, take, drop, length-set, length-append, length-take, length-drop, List·getD-append}
-use lib.Seq.{set-getD, getD-set-same, getD-set-other, getD-take, getD-drop, getD-append-add, ext-getD}
+use lib.Seq.{set-getD, getD-set-same, getD-set-other, getD-take, getD-drop, getD-append-add, ext-getD, drop-cons}
 use Rattle.shapes.specs.Edit.{edit, filled}
 
 module _ (f : ℕ → ℕ → ℕ) (at : ℕ) where
@@ -121,6 +122,15 @@ pub length-filled : (l : List ℕ) (at : ℕ) (v : List ℕ) → length (filled 
 unfolding filled
 length-filled l at v = length-edit _ at (length v) l
 
+-- so a store and then a write keep it
+pub length-stored : (out l : List ℕ) (at x place : ℕ) (v : List ℕ) → l ≡ filled (set out at x) place v → length l ≡ length out
+length-stored out l at x place v e = rw (e, length-filled, length-set)
+
+-- one number written is one store
+pub filled-one : (l : List ℕ) (at x : ℕ) → filled l at (x ∷ []) ≡ set l at x
+unfolding filled
+filled-one l at x = rw add-zero
+
 -- what stands before the place stays
 pub filled-below : (l : List ℕ) (at : ℕ) (v : List ℕ) (j : ℕ) → j < at → getD (filled l at v) j 0 ≡ getD l j 0
 unfolding filled
@@ -162,3 +172,8 @@ filled-append l at v w = rw (length-append, ← edit-compose both at (length v) 
     then : edit (λ i old. getD w i 0) (at + length v) (length w) (edit both at (length v) l)
         ≡ edit (λ i. both (length v + i)) (at + length v) (length w) (edit both at (length v) l)
     then = edit-same (λ i old. getD w i 0) (at + length v) (λ i. both (length v + i)) (length w) _ λ i x h. rw getD-append-add
+
+-- a list from a place on, with its first three entries named
+pub drop-three : (l : List ℕ) (at : ℕ) → at + 3 ≤ length l → drop at l ≡ getD l at 0 ∷ getD l (at + 1) 0 ∷ getD l (at + 2) 0 ∷ drop (at + 3) l
+drop-three l at h =
+    rw (add-one, add-two, add-three, drop-cons l at 0 (omega arith), drop-cons l (suc at) 0 (omega arith), drop-cons l (suc (suc at)) 0 (omega arith))

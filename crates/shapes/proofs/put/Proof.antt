@@ -1,17 +1,13 @@
 -- `shapes::put` meets its contract. The invariant: the bytes passed are written, and no other.
 -- Assumes nothing.
 use Prim.Native.Nat.{_-_, _≤_}
-use Prim.Native.Nat.{_-_, _≤_}
-use mathlib.Core.Path.{_≡_, sym, ap, _∙_}
 use mathlib.Core.Path.{_≡_, sym, ap, _∙_}
 use native.Mathlib.Omega.{arith}
-use lib.ListN.{length, getD}
 use lib.ListN.{length, getD}
 use Rattle.shapes.proofs.Edit.{edit-none, edit-more, length-edit}
 use Rattle.shapes.proofs.put.Statement.{statement}
 use Rattle.shapes.proofs.put.Tie as tie
 use Rattle.shapes.specs.Edit.{edit, filled}
-use Rattle.shapes.specs.Edit.{edit}
 
 abbrev Inv-loop : tie.InvT-loop
 Inv-loop out₀ at from i₀ out i = (i ≤ length from) × (out ≡ edit (λ j old. getD from j 0) at i out₀)

@@ -4,8 +4,8 @@ use borrow.Author.Needs.{needs}
 use mathlib.Core.Path.{refl, ap, _∙_}
 use native.Mathlib.Omega.{arith}
 use lib.ListN.{length, length-set}
-use Rattle.shapes.proofs.Edit.{length-filled}
-use Rattle.house.proofs.Records.{length-stored, case-written}
+use Rattle.shapes.proofs.Edit.{length-filled, length-stored}
+use Rattle.house.proofs.Records.{case-written}
 use Rattle.house.proofs.cases.put_case.Statement.{statement}
 use Rattle.house.proofs.cases.put_case.Tie as tie
 

@@ -2,7 +2,8 @@
 -- Assumes nothing.
 use borrow.Author.Needs.{needs}
 use mathlib.Core.Path.{sym, _∙_}
-use Rattle.house.proofs.Retests.{record-refused, record-counted, rules-first, rules-second, rules-slot, rules-fine}
+use Rattle.house.proofs.Records.{rules-refuse, rules-pass}
+use Rattle.house.proofs.Retests.{rules-first, rules-second, rules-slot, rules-fine}
 use Rattle.house.proofs.retest.check_retest.Statement.{statement}
 use Rattle.house.proofs.retest.check_retest.Tie as tie
 
@@ -22,19 +23,19 @@ enum-known-again : tie.Need-enum-known-again
 enum-known-again c = search needs
 
 returns : tie.Need-returns
-returns c = rw (rules-second _ _ _ (record-counted _ (sym (c .before .before .before .before .before .before .before .read-record .ensures) ∙ c .before .before .before .before .before .read2 .given .1) .0) (record-refused _ (sym (c .before .before .before .read-record2 .ensures) ∙ c .before .again .given .1)))
+returns c = rw (rules-second _ _ _ (rules-pass _ (sym (c .before .before .before .before .before .before .before .read-record .ensures) ∙ c .before .before .before .before .before .read2 .given .1) .0) (rules-refuse _ (sym (c .before .before .before .read-record2 .ensures) ∙ c .before .again .given .1)))
 
 enum-told : tie.Need-enum-told
 enum-told c = search needs
 
 returns-2 : tie.Need-returns-2
-returns-2 c = let f = record-counted _ (sym (c .before .before .before .before .before .before .before .read-record .ensures) ∙ c .before .before .before .before .before .read2 .given .1) in let g = record-counted _ (sym (c .before .before .before .read-record2 .ensures) ∙ c .before .enum-told .given .1) in rw (rules-slot _ _ _ (f .0) (g .0) (f .1) (c .if1 .taken))
+returns-2 c = let f = rules-pass _ (sym (c .before .before .before .before .before .before .before .read-record .ensures) ∙ c .before .before .before .before .before .read2 .given .1) in let g = rules-pass _ (sym (c .before .before .before .read-record2 .ensures) ∙ c .before .enum-told .given .1) in rw (rules-slot _ _ _ (f .0) (g .0) (f .1) (c .if1 .taken))
 
 returns-3 : tie.Need-returns-3
-returns-3 c = rw (rules-first _ _ _ (record-refused _ (sym (c .before .before .before .read-record .ensures) ∙ c .before .read .given .1)))
+returns-3 c = rw (rules-first _ _ _ (rules-refuse _ (sym (c .before .before .before .read-record .ensures) ∙ c .before .read .given .1)))
 
 returns-4 : tie.Need-returns-4
-returns-4 c = let f = record-counted _ (sym (c .before .before .before .before .before .before .before .read-record .ensures) ∙ c .before .before .before .before .before .read2 .given .1) in let g = record-counted _ (sym (c .before .before .before .read-record2 .ensures) ∙ c .before .enum-told .given .1) in rw (rules-fine _ _ _ (f .0) (g .0) (f .1) (c .if1 .left))
+returns-4 c = let f = rules-pass _ (sym (c .before .before .before .before .before .before .before .read-record .ensures) ∙ c .before .before .before .before .before .read2 .given .1) in let g = rules-pass _ (sym (c .before .before .before .read-record2 .ensures) ∙ c .before .enum-told .given .1) in rw (rules-fine _ _ _ (f .0) (g .0) (f .1) (c .if1 .left))
 
 pub check-retest-spec : {M : Type 1} → statement M
 check-retest-spec =

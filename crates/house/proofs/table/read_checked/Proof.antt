@@ -54,14 +54,11 @@ part-first-bad-end c = search needs
 first-bad-requires : tie.Need-first-bad-requires
 first-bad-requires c κs = let n = head-named (c .before .before .before .before .before .before .before .before .before .before .before .before .args .file .now) (c .before .before .before .before .before .before .before .before .before .byte .ensures .0) (c .before .before .before .before .before .before .before .before .byte2 .ensures .0) (c .before .before .before .before .before .before .before .byte3 .ensures .0) (c .before .before .before .before .before .before .new .ensures .0) (c .before .before .before .before .made .given .1) in (named-in _ n, cells-room _ n (c .before .before .cells .ensures .0) (c .before .if2 .left))
 
-cells-requires-2 : tie.Need-cells-requires-2
-cells-requires-2 c κs = named-in _ (head-named (c .before .before .before .before .before .before .before .before .before .before .before .before .before .args .file .now) (c .before .before .before .before .before .before .before .before .before .before .byte .ensures .0) (c .before .before .before .before .before .before .before .before .before .byte2 .ensures .0) (c .before .before .before .before .before .before .before .before .byte3 .ensures .0) (c .before .before .before .before .before .before .before .new .ensures .0) (c .before .before .before .before .before .made .given .1))
-
 returns-4 : tie.Need-returns-4
-returns-4 c = let n = head-named (c .before .before .before .before .before .before .before .before .before .before .before .before .before .before .before .args .file .now) (c .before .before .before .before .before .before .before .before .before .before .before .before .byte .ensures .0) (c .before .before .before .before .before .before .before .before .before .before .before .byte2 .ensures .0) (c .before .before .before .before .before .before .before .before .before .before .byte3 .ensures .0) (c .before .before .before .before .before .before .before .before .before .new .ensures .0) (c .before .before .before .before .before .before .before .made .given .1) in sym (read-cell _ (c .before .before .before .before .before .before .before .before .before .before .before .before .before .before .before .pre) (size-right _ n (c .before .before .before .before .before .cells .ensures .0) (c .before .before .before .before .if2 .left)) n (c .before .cells2 .ensures .0) (cells-bad _ n (c .before .before .first-bad .ensures)) (c .if3 .taken))
+returns-4 c = let n = head-named (c .before .before .before .before .before .before .before .before .before .before .before .before .before .before .args .file .now) (c .before .before .before .before .before .before .before .before .before .before .before .byte .ensures .0) (c .before .before .before .before .before .before .before .before .before .before .byte2 .ensures .0) (c .before .before .before .before .before .before .before .before .before .byte3 .ensures .0) (c .before .before .before .before .before .before .before .before .new .ensures .0) (c .before .before .before .before .before .before .made .given .1) in sym (read-cell _ (c .before .before .before .before .before .before .before .before .before .before .before .before .before .before .pre) (size-right _ n (c .before .before .before .before .cells .ensures .0) (c .before .before .before .if2 .left)) n (c .before .before .before .before .cells .ensures .0) (cells-bad _ n (c .before .first-bad .ensures)) (c .if3 .taken))
 
 returns-5 : tie.Need-returns-5
-returns-5 c = let n = head-named (c .before .before .before .before .before .before .before .before .before .before .before .before .before .before .before .args .file .now) (c .before .before .before .before .before .before .before .before .before .before .before .before .byte .ensures .0) (c .before .before .before .before .before .before .before .before .before .before .before .byte2 .ensures .0) (c .before .before .before .before .before .before .before .before .before .before .byte3 .ensures .0) (c .before .before .before .before .before .before .before .before .before .new .ensures .0) (c .before .before .before .before .before .before .before .made .given .1) in sym (read-fine _ (c .before .before .before .before .before .before .before .before .before .before .before .before .before .before .before .pre) (size-right _ n (c .before .before .before .before .before .cells .ensures .0) (c .before .before .before .before .if2 .left)) n (c .before .cells2 .ensures .0) (cells-bad _ n (c .before .before .first-bad .ensures)) (c .if3 .left))
+returns-5 c = let n = head-named (c .before .before .before .before .before .before .before .before .before .before .before .before .before .before .args .file .now) (c .before .before .before .before .before .before .before .before .before .before .before .byte .ensures .0) (c .before .before .before .before .before .before .before .before .before .before .byte2 .ensures .0) (c .before .before .before .before .before .before .before .before .before .byte3 .ensures .0) (c .before .before .before .before .before .before .before .before .new .ensures .0) (c .before .before .before .before .before .before .made .given .1) in sym (read-fine _ (c .before .before .before .before .before .before .before .before .before .before .before .before .before .before .pre) (size-right _ n (c .before .before .before .before .cells .ensures .0) (c .before .before .before .if2 .left)) n (c .before .before .before .before .cells .ensures .0) (cells-bad _ n (c .before .first-bad .ensures)) (c .if3 .left))
 
 pub read-checked-spec : {M : Type 1} → statement M
 read-checked-spec =
@@ -83,6 +80,5 @@ read-checked-spec =
     part-first-bad-start
     part-first-bad-end
     first-bad-requires
-    cells-requires-2
     returns-4
     returns-5)

@@ -1,0 +1,7 @@
+pub mod Checks
+pub mod Formed
+pub mod Stored
+pub mod Stores
+pub mod Tallied
+pub mod Kept
+pub mod True

@@ -1,0 +1,18 @@
+-- `session::tally::missed` meets its contract: the answer as a number.
+-- Assumes nothing.
+use borrow.Author.Needs.{needs}
+use Rattle.session.proofs.Stores.{bit-told}
+use Rattle.session.proofs.tally.missed.Statement.{statement}
+use Rattle.session.proofs.tally.missed.Tie as tie
+
+is-missed-requires : tie.Need-is-missed-requires
+is-missed-requires c κs = search needs
+
+cast-result : tie.Need-cast-result
+cast-result c = search needs
+
+returns : tie.Need-returns
+returns c = bit-told (c .is-missed .ensures)
+
+pub missed-spec : {M : Type 1} → statement M
+missed-spec = tie.close (tie.spec is-missed-requires cast-result returns)

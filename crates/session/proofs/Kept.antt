@@ -56,7 +56,7 @@ pub good-fits : (h : Head) (c : Case) → goodCase h (c .inputs) (c .outputs) �
 good-fits h c e = let k = case-in h (c .inputs) (c .outputs) e in record { few = k .few-steps; even = k .even }
 
 -- and fills it;
-good-fills : (h : Head) (c : Case) → goodCase h (c .inputs) (c .outputs) ≡ true → not (eqb (length (c .inputs)) 0) ≡ true
+pub good-fills : (h : Head) (c : Case) → goodCase h (c .inputs) (c .outputs) ≡ true → not (eqb (length (c .inputs)) 0) ≡ true
 good-fills h c e = let l = case-in h (c .inputs) (c .outputs) e .some-steps in rw (ne-eqb (length (c .inputs)) 0 (λ z. omega arith))
 
 -- no case fits too
@@ -74,7 +74,7 @@ slot-held s p e = and-true (ltb p placesMost) _ e .1
 
 module _ (s t : List ℕ) (k : Formed s t) where
   -- no place has more than 64 steps
-  places-few : (q : ℕ) → q < placesMost → stepsOf s q ≤ stepsMost
+  pub places-few : (q : ℕ) → q < placesMost → stepsOf s q ≤ stepsMost
   unfolding goodPlace
   places-few q l = leb-true _ _ (and-true _ _ (formed-place s t k q l) .0)
 
@@ -191,7 +191,7 @@ unfolding raised miss
 raised-same s s′ c t head cells = λ i. edit (λ f old. old + bit (misses (head i) (cells i) f c)) 0 (numbers (head i)) t
 
 -- and so do the cases of a load
-loaded-same : (s s′ : List ℕ) (cs : List Case) (t : List ℕ) → headOf s′ ≡ headOf s → cellsOf s′ ≡ cellsOf s
+pub loaded-same : (s s′ : List ℕ) (cs : List Case) (t : List ℕ) → headOf s′ ≡ headOf s → cellsOf s′ ≡ cellsOf s
     → loadedTallies s′ cs t ≡ loadedTallies s cs t
 unfolding loadedTallies
 loaded-same s s′ [] t head cells = refl
@@ -199,7 +199,7 @@ loaded-same s s′ (c ∷ cs) t head cells =
     ap (loadedTallies s′ cs) (raised-same s s′ c t head cells) ∙ loaded-same s s′ cs (raised s c t) head cells
 
 -- fewer cases than places leave a place free
-free-left : (s : List ℕ) → length (cases s) < placesMost → freePlace s < placesMost
+pub free-left : (s : List ℕ) → length (cases s) < placesMost → freePlace s < placesMost
 free-left s l = go (ltb (freePlace s) placesMost) refl
   where
     go : (b : Bool) → ltb (freePlace s) placesMost ≡ b → freePlace s < placesMost
@@ -250,7 +250,7 @@ held-none s (suc n) free = rw (held-none s n (λ p l. free p (omega arith)), fre
 
 module _ (s file : List ℕ) (room : sessionSize ≤ length s) where
   -- after a start each byte is the file's after its length field,
-  started-byte : (i : ℕ) → i < sessionSize → getD (started s file) i 0 ≡ getD file (restAt + i) 0
+  pub started-byte : (i : ℕ) → i < sessionSize → getD (started s file) i 0 ≡ getD file (restAt + i) 0
   unfolding started
   started-byte i l = rw zero-add at (edit-in (λ i old. getD file (restAt + i) 0) 0 sessionSize s i l (omega arith))
 
@@ -259,7 +259,7 @@ module _ (s file : List ℕ) (room : sessionSize ≤ length s) where
   started-zero i l e = started-byte i l ∙ List·getD-eq-default file 0 e
 
   -- so with no bytes past the cells every place is free,
-  started-free : length file ≤ placesAt + restAt → (p : ℕ) → p < placesMost → stepsOf (started s file) p ≡ 0
+  pub started-free : length file ≤ placesAt + restAt → (p : ℕ) → p < placesMost → stepsOf (started s file) p ≡ 0
   started-free e p l = started-zero (placeAt p) (omega arith) (omega arith)
 
   -- and good

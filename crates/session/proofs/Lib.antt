@@ -5,3 +5,6 @@ pub mod Stores
 pub mod Tallied
 pub mod Kept
 pub mod True
+pub mod Histories
+pub mod Answers
+pub mod Tied

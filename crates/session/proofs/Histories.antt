@@ -1,0 +1,561 @@
+-- Demand 3: after a start and any list of calls, refused ones among them, the memory shows the model. A call's rules let it pass exactly where
+-- the model takes it, so both change or both stay; and what a store changes in the memory is what the model changes.
+-- Assumes nothing.
+use Prim.Native.Nat.{ℕ, zero, suc, _+_, _-_, _≤_, _<_}
+use mathlib.Core.Path.{_≡_, refl, sym, ap, subst, _∙_}
+use mathlib.Core.List.{List, [], _∷_, _++_}
+use mathlib.Core.Bool.{Bool, true, false, cond, not, _&&_, true≢false, false≢true}
+use mathlib.Core.Logic.{_⊎_, inl, inr}
+use native.Mathlib.Nat.{add-assoc, zero-add}
+use native.Mathlib.Omega.{arith}
+use lib.Dec.{eqb, ltb, leb}
+use lib.ListN.{length, getD, replicate, drop, length-drop, length-replicate, List·getD-eq-default}
+use lib.Seq.{length-take-le, getD-take, getD-drop, ext-getD}
+use borrow.Author.Tests.{eq-eqb, eqb-true, eqb-false, lt-ltb, le-ltb, le-leb, lt-leb, ltb-true, ltb-false, leb-true, leb-false, not-true}
+use Rattle.shapes.specs.Edit.{edit}
+use Rattle.shapes.specs.Keep.{has, every}
+use Rattle.shapes.specs.Refusals.{Rule, when, Ruling, fine, refused, ruling}
+use Rattle.shapes.proofs.First.{first-same, first-holds}
+use Rattle.shapes.proofs.Edit.{edit-in, edit-out-above, length-edit}
+use Rattle.shapes.proofs.Refusals.{fine-when}
+use Rattle.shapes.proofs.Tests.{and-true}
+use Rattle.machine.specs.Head.{numbers}
+use Rattle.machine.specs.Fault.{cellOf}
+use Rattle.machine.specs.Case.{Case, goodCase}
+use Rattle.machine.specs.declared.head.Head.{Head}
+use Rattle.machine.proofs.Cases.{case-in}
+use Rattle.house.specs.File.{restAt}
+use Rattle.house.specs.Table.{headIn, cellsIn, tableRules, tableOr, tableRead}
+use Rattle.house.specs.Cases.{recordFile, AllRecordable, countIn, countOf, recordRules, recordOr, recordRead, casesIn, caseRules, casesRules}
+use Rattle.house.specs.declared.refusal.Refusal.{Refusal}
+use Rattle.house.specs.declared.table.TableFile.the-variants.{Table}
+use Rattle.house.specs.declared.cases.RecordFile.the-variants.{Record}
+use Rattle.house.proofs.Tables.{table-taken}
+use Rattle.house.proofs.Records.{record-reads-back}
+use Rattle.diagnosis.specs.Diagnosis.{tally, list, someFails, verdictOf, isCandidate, allGood}
+use Rattle.diagnosis.proofs.Lists.{list-by-tallies}
+use Rattle.diagnosis.proofs.Candidates.{candidate-law}
+use Rattle.session.specs.Layout.{placesMost, cellsAt, cellsRoom, sessionSize, talliesSize, headOf, cellsOf, isHeld, caseOf, caseIf, heldTo, cases, freePlace, noCase}
+use Rattle.session.specs.Form.{Formed, TrueTallies}
+use Rattle.session.specs.Calls.{outcomeOr, roomRules, formRules, isSlot, slotRules, miss, canTake, raised, lowered, placed, started, cleared, startRules, startCall, addRules, addCall, withdrawRules, withdrawCall, amendRules, amendCall, loadedSession, loadedTallies, roomForRules, loadRules, loadCall}
+use Rattle.session.specs.Reads.{machineOf, listOf, verdictIn, falseTally, auditIf, auditOr, auditCall}
+use Rattle.session.specs.History.{Call, start, add, amend, withdraw, load, Memory, memory, left, carried, carriedAll, Slot, free, holds, Model, isHolding, slotCases, casesTo, casesHeld, lowest, put, putAll, withPlaces, cellBytes, startedModel, fitsTable, startOr, loadOr, step, steps, slotOf, Shows}
+use Rattle.session.specs.declared.read.Audited as Audited-type
+use Rattle.session.proofs.Formed.{cases-good, cases-few}
+use Rattle.session.proofs.Stored.{Fits, head-placed, cells-placed, case-placed, held-placed, steps-elsewhere, case-elsewhere}
+use Rattle.session.proofs.Tallied.{miss-few}
+use Rattle.session.proofs.Kept.{good-fits, good-fills, no-fits, slot-inside, places-few, add-count, add-keeps, withdraw-keeps, amend-keeps, start-keeps, loaded-same, free-left, started-byte, started-free, table-short, started-table}
+use Rattle.session.proofs.True.{add-true, true-can-take, withdraw-true, amend-true, start-true}
+
+-- what a memory shows
+abbrev pub ShowsMemory : Memory → Model → Type 0
+ShowsMemory (memory s t) m = Shows s t m
+
+-- a ruling is fine exactly if a test holds
+abbrev Decides : Ruling Refusal → Bool → Type 0
+Decides fine b = b ≡ true
+Decides (refused r) b = b ≡ false
+
+-- whether a ruling is fine
+abbrev isFine : Ruling Refusal → Bool
+isFine fine = true
+isFine (refused r) = false
+
+-- is such a test
+decides-fine : (v : Ruling Refusal) → Decides v (isFine v)
+decides-fine fine = refl
+decides-fine (refused r) = refl
+
+-- one rule lets pass exactly if its test fails
+decides-one : (x b : Bool) (r : Refusal) → x ≡ not b → Decides (ruling (when x r ∷ [])) b
+unfolding ruling
+decides-one x true r e = rw e
+decides-one x false r e = rw e
+
+-- rules and rules after them let pass exactly if both do
+decides-join : (l n : List (Rule Refusal)) (a b : Bool) → Decides (ruling l) a → Decides (ruling n) b → Decides (ruling (l ++ n)) (a && b)
+unfolding ruling
+decides-join [] n a b d e = rw d e
+decides-join (when true r ∷ l) n a b d e = rw d
+decides-join (when false r ∷ l) n a b d e = decides-join l n a b d e
+
+-- a call whose rules let it pass exactly if the model takes it changes both or neither
+done-shows : (v : Ruling Refusal) (n : ℕ) (s t s′ t′ : List ℕ) (b : Bool) (m m′ : Model) → Decides v b → Shows s t m
+    → (b ≡ true → Shows s′ t′ m′) → ShowsMemory (left (outcomeOr v n s t s′ t′)) (cond b m′ m)
+done-shows fine n s t s′ t′ b m m′ d k next = rw d (next d)
+done-shows (refused r) n s t s′ t′ b m m′ d k next = rw d k
+
+-- the rules let pass buffers that are long enough,
+room-decides : (s t : List ℕ) → sessionSize ≤ length s → talliesSize ≤ length t → Decides (ruling (roomRules s t)) true
+unfolding roomRules ruling
+room-decides s t a b = rw (le-ltb (length s) sessionSize a, le-ltb (length t) talliesSize b)
+
+-- a well-formed session,
+form-decides : (s t : List ℕ) → Formed s t → Decides (ruling (formRules s t)) true
+unfolding formRules
+form-decides s t k =
+    decides-join (roomRules s t) _ true true (room-decides s t (k .session-room) (k .tallies-room)) (decides-one _ true _ (ap not (k .form)))
+
+-- a case that can be run,
+case-decides : (h : Head) (c : Case) → Decides (ruling (caseRules h c)) (goodCase h (c .inputs) (c .outputs))
+unfolding caseRules
+case-decides h c = decides-one _ (goodCase h (c .inputs) (c .outputs)) _ refl
+
+-- and cases that all can
+cases-decide : (h : Head) (cs : List Case) → Decides (ruling (casesRules h cs)) (allGood h cs)
+unfolding casesRules allGood every ruling
+cases-decide h [] = refl
+cases-decide h (c ∷ cs) = decides-join (caseRules h c) (casesRules h cs) _ _ (case-decides h c) (cases-decide h cs)
+
+-- what a place of the memory holds is a case exactly if the place is held
+slot-holding : (s : List ℕ) (p : ℕ) → isHolding (slotOf s p) ≡ isHeld s p
+unfolding slotOf
+slot-holding s p = go (isHeld s p)
+  where
+    go : (b : Bool) → isHolding (cond b (holds (caseOf s p)) free) ≡ b
+    go true = refl
+    go false = refl
+
+-- and its cases are those of the place
+slot-cases : (s : List ℕ) (p : ℕ) → caseIf (isHeld s p) (caseOf s p) ≡ slotCases (slotOf s p)
+unfolding slotOf
+slot-cases s p = go (isHeld s p)
+  where
+    go : (b : Bool) → caseIf b (caseOf s p) ≡ slotCases (cond b (holds (caseOf s p)) free)
+    go true = refl
+    go false = refl
+
+-- places that hold the same hold the same cases
+held-same : (s : List ℕ) (at : ℕ → Slot) (n : ℕ) → ((p : ℕ) → p < n → slotOf s p ≡ at p) → heldTo s n ≡ casesTo at n
+unfolding heldTo casesTo
+held-same s at zero each = refl
+held-same s at (suc n) each =
+    λ i. held-same s at n (λ p l. each p (omega arith)) i ++ (slot-cases s n ∙ ap slotCases (each n (omega arith))) i
+
+module _ (s t : List ℕ) (m : Model) (k : Shows s t m) where
+  -- the cases held are those of the model, by rising place
+  pub shown-cases : cases s ≡ casesHeld m
+  unfolding cases casesHeld
+  shown-cases = held-same s (m .at) placesMost (k .same-places)
+
+  -- a place is held exactly if it holds a case in the model
+  held-shown : (p : ℕ) → p < placesMost → isHolding (m .at p) ≡ isHeld s p
+  held-shown p l = ap isHolding (sym (k .same-places p l)) ∙ slot-holding s p
+
+  -- so the same place is the lowest that is free,
+  free-shown : lowest (m .at) ≡ freePlace s
+  unfolding lowest freePlace
+  free-shown = first-same _ _ 0 placesMost (λ p a l. ap not (held-shown p (omega arith)))
+
+  -- the same places can be withdrawn or amended,
+  slot-shown : (p : ℕ) → (ltb p placesMost && isHolding (m .at p)) ≡ isSlot s p
+  unfolding isSlot
+  slot-shown p = go (ltb p placesMost) refl
+    where
+      go : (b : Bool) → ltb p placesMost ≡ b → (b && isHolding (m .at p)) ≡ (b && isHeld s p)
+      go true e = held-shown p (ltb-true p placesMost e)
+      go false e = refl
+
+  -- and the same cases can be run
+  fits-shown : (c : Case) → fitsTable m c ≡ goodCase (headOf s) (c .inputs) (c .outputs)
+  fits-shown c = rw (k .same-head)
+
+  -- a store in a place is shown by a change of that place
+  place-shows : (p : ℕ) → p < placesMost → (c : Case) → Fits c → (x : Slot)
+      → cond (not (eqb (length (c .inputs)) 0)) (holds c) free ≡ x → (t′ : List ℕ) → Formed (placed s p c) t′ → TrueTallies (placed s p c) t′
+      → Shows (placed s p c) t′ (withPlaces m (put (m .at) p x))
+  unfolding slotOf
+  place-shows p l c fits x is t′ form now =
+      record {
+        formed = form;
+        true-tallies = now;
+        same-head = head-placed s room p l c fits ∙ k .same-head;
+        same-cells = cells-placed s room p l c fits ∙ k .same-cells;
+        same-places = λ q h. go q h (eqb q p) refl;
+      }
+    where
+      room : sessionSize ≤ length s
+      room = k .formed .session-room
+
+      here : slotOf (placed s p c) p ≡ x
+      here = (λ i. cond (held-placed s room p l c fits i) (holds (case-placed s room p l c fits i)) free) ∙ is
+
+      go : (q : ℕ) → q < placesMost → (b : Bool) → eqb q p ≡ b → slotOf (placed s p c) q ≡ cond b x (m .at q)
+      go q h true e = rw (eqb-true q p e) here
+      go q h false e =
+          let other = eqb-false q p e in
+          let steps = steps-elsewhere s room p l c fits q h other in
+          let case = case-elsewhere s room p l c fits q h other (places-few s t (k .formed) q h) in
+          (λ i. cond (not (eqb (steps i) 0)) (holds (case i)) free) ∙ k .same-places q h
+
+  -- with a case that can be run the place then holds it
+  case-shows : (p : ℕ) → p < placesMost → (c : Case) → goodCase (headOf s) (c .inputs) (c .outputs) ≡ true → (t′ : List ℕ)
+      → Formed (placed s p c) t′ → TrueTallies (placed s p c) t′ → Shows (placed s p c) t′ (withPlaces m (put (m .at) p (holds c)))
+  case-shows p l c good =
+      place-shows p l c (good-fits (headOf s) c good) (holds c) (ap (λ (b : Bool). cond b (holds c) free) (good-fills (headOf s) c good))
+
+  -- a case added is shown by the lowest free place holding it
+  add-shows : (c : Case) → goodCase (headOf s) (c .inputs) (c .outputs) ≡ true → freePlace s < placesMost
+      → Shows (placed s (freePlace s) c) (raised s c t) (withPlaces m (put (m .at) (lowest (m .at)) (holds c)))
+  add-shows c good l =
+      rw free-shown
+      (case-shows (freePlace s) l c good (raised s c t) (add-keeps s t c (k .formed) good l) (add-true s t c (k .formed) (k .true-tallies) good l))
+
+  -- a place withdrawn, by its being free
+  withdraw-shows : (p : ℕ) → isSlot s p ≡ true → Shows (placed s p noCase) (lowered s (caseOf s p) t) (withPlaces m (put (m .at) p free))
+  withdraw-shows p slot =
+      place-shows p (slot-inside s p slot) noCase no-fits free refl (lowered s (caseOf s p) t)
+      (withdraw-keeps s t p (k .formed) slot (true-can-take s t p (k .formed) (k .true-tallies) slot))
+      (withdraw-true s t p (k .formed) (k .true-tallies) slot)
+
+  -- a place amended, by its holding the new case
+  amend-shows : (p : ℕ) (c : Case) → isSlot s p ≡ true → goodCase (headOf s) (c .inputs) (c .outputs) ≡ true
+      → Shows (placed s p c) (raised s c (lowered s (caseOf s p) t)) (withPlaces m (put (m .at) p (holds c)))
+  amend-shows p c slot good =
+      case-shows p (slot-inside s p slot) c good (raised s c (lowered s (caseOf s p) t))
+      (amend-keeps s t p c (k .formed) slot (true-can-take s t p (k .formed) (k .true-tallies) slot) good)
+      (amend-true s t p c (k .formed) (k .true-tallies) slot good)
+
+-- cases loaded are shown by the lowest free places holding them, in order
+load-shows : (s t : List ℕ) (m : Model) (cs : List Case) → Shows s t m → allGood (headOf s) cs ≡ true → length (cases s) + length cs ≤ placesMost
+    → Shows (loadedSession s cs) (loadedTallies s cs t) (withPlaces m (putAll (m .at) cs))
+unfolding loadedSession loadedTallies putAll allGood every
+load-shows s t m [] k good few = k
+load-shows s t m (c ∷ cs) k good few =
+    let g = and-true (goodCase (headOf s) (c .inputs) (c .outputs)) _ good in
+    let l = free-left s (omega arith) in
+    let n = add-count s t c (k .formed) (g .0) l in
+    let next = add-shows s t m k c (g .0) l in
+    let head = next .same-head ∙ sym (k .same-head) in
+    let cells = next .same-cells ∙ sym (k .same-cells) in
+    rw (← loaded-same s (placed s (freePlace s) c) cs (raised s c t) head cells)
+    (load-shows (placed s (freePlace s) c) (raised s c t) _ cs next (subst (λ (h : Head). allGood h cs ≡ true) (sym head) (g .1)) (omega arith))
+
+-- after a start the cells are the file's, zero after those used
+started-cells : (s file : List ℕ) → sessionSize ≤ length s → sessionSize ≤ length (started s file) → cellsOf (started s file) ≡ cellBytes file
+unfolding cellBytes
+started-cells s file room long = ext-getD 0 (cellsOf (started s file)) (cellBytes file) (here ∙ sym there) (λ i h. each i (rw here at h))
+  where
+    here : length (cellsOf (started s file)) ≡ cellsRoom
+    here = length-take-le cellsRoom (drop cellsAt (started s file)) (omega (arith, length-drop cellsAt (started s file)))
+
+    zeros : List ℕ
+    zeros = replicate cellsRoom 0
+
+    wide : length zeros ≡ cellsRoom
+    wide = length-replicate {A = ℕ} cellsRoom 0
+
+    there : length (cellBytes file) ≡ cellsRoom
+    there = length-edit (λ i old. getD (cellsIn file) i 0) 0 cellsRoom zeros ∙ wide
+
+    each : (i : ℕ) → i < cellsRoom → getD (cellsOf (started s file)) i 0 ≡ getD (cellBytes file) i 0
+    each i l =
+        getD-take cellsRoom (drop cellsAt (started s file)) i 0 l
+        ∙ getD-drop cellsAt (started s file) i 0
+        ∙ started-byte s file room (cellsAt + i) (omega arith)
+        ∙ ap (λ (j : ℕ). getD file j 0) (sym (add-assoc restAt cellsAt i))
+        ∙ sym (getD-drop (restAt + cellsAt) file i 0)
+        ∙ sym (rw zero-add at (edit-in (λ i old. getD (cellsIn file) i 0) 0 cellsRoom zeros i l (omega arith)))
+
+-- so a session that was started shows the model that its file starts
+started-shows : (s t file : List ℕ) (h : Head) → sessionSize ≤ length s → talliesSize ≤ length t → tableRead file ≡ Table h
+    → Shows (started s file) (cleared t) (startedModel file h)
+unfolding startedModel slotOf
+started-shows s t file h room rest read =
+    record {
+      formed = form;
+      true-tallies = start-true s t file h room rest read;
+      same-head = started-table s file h room read .0;
+      same-cells = started-cells s file room (form .session-room);
+      same-places = λ p l. rw (started-free s file room (table-short file h read) p l);
+    }
+  where
+    form : Formed (started s file) (cleared t)
+    form = start-keeps s t file h room rest read
+
+-- a start is let pass exactly if its file is a table
+start-decides : (s t file : List ℕ) → sessionSize ≤ length s → talliesSize ≤ length t
+    → Decides (ruling (startRules s t file)) (isFine (ruling (tableRules file)))
+unfolding startRules
+start-decides s t file room rest =
+    decides-join (roomRules s t) (tableRules file) true _ (room-decides s t room rest) (decides-fine (ruling (tableRules file)))
+
+-- a start that is accepted shows its model
+pub start-shows : (s t file : List ℕ) (h : Head) → sessionSize ≤ length s → talliesSize ≤ length t → tableRead file ≡ Table h
+    → ShowsMemory (left (startCall s t file)) (startedModel file h)
+unfolding startCall
+start-shows s t file h room rest read =
+    go (ruling (startRules s t file)) (rw (fine-when (tableRules file) .1 (table-taken file h read .0)) at (start-decides s t file room rest))
+  where
+    go : (v : Ruling Refusal) → Decides v true → ShowsMemory (left (outcomeOr v 0 s t (started s file) (cleared t))) (startedModel file h)
+    go fine d = started-shows s t file h room rest read
+    go (refused r) d = absurd (true≢false d)
+
+-- an add is let pass exactly if the model takes it
+add-decides : (s t : List ℕ) (m : Model) → Shows s t m → (c : Case)
+    → Decides (ruling (addRules s t c)) (fitsTable m c && ltb (lowest (m .at)) placesMost)
+unfolding addRules
+add-decides s t m k c =
+    rw (fits-shown s t m k c, free-shown s t m k)
+    (decides-join (formRules s t) _ true _ (form-decides s t (k .formed))
+    (decides-join (caseRules (headOf s) c) _ _ _ (case-decides (headOf s) c)
+    (decides-one (leb placesMost (freePlace s)) (ltb (freePlace s) placesMost) _ (low (ltb (freePlace s) placesMost) refl))))
+  where
+    low : (b : Bool) → ltb (freePlace s) placesMost ≡ b → leb placesMost (freePlace s) ≡ not b
+    low true e = lt-leb placesMost (freePlace s) (ltb-true (freePlace s) placesMost e)
+    low false e = le-leb placesMost (freePlace s) (ltb-false (freePlace s) placesMost e)
+
+-- a place is let pass exactly if it holds a case
+slot-decides : (s t : List ℕ) (m : Model) → Shows s t m → (p : ℕ) → Decides (ruling (slotRules s t p)) (isSlot s p)
+unfolding slotRules
+slot-decides s t m k p = decides-join (formRules s t) _ true _ (form-decides s t (k .formed)) (decides-one _ (isSlot s p) _ refl)
+
+-- a withdrawal is let pass exactly if the model takes it, since every held case can be taken away;
+withdraw-decides : (s t : List ℕ) (m : Model) → Shows s t m → (p : ℕ)
+    → Decides (ruling (withdrawRules s t p)) (ltb p placesMost && isHolding (m .at p))
+unfolding withdrawRules
+withdraw-decides s t m k p =
+    rw (slot-shown s t m k p, ← can (isSlot s p) refl)
+    (decides-join (slotRules s t p) _ _ _ (slot-decides s t m k p) (decides-one _ (canTake s t p) _ refl))
+  where
+    can : (b : Bool) → isSlot s p ≡ b → (b && canTake s t p) ≡ b
+    can true e = true-can-take s t p (k .formed) (k .true-tallies) e
+    can false e = refl
+
+-- so is an amendment,
+amend-decides : (s t : List ℕ) (m : Model) → Shows s t m → (p : ℕ) (c : Case)
+    → Decides (ruling (amendRules s t p c)) ((ltb p placesMost && isHolding (m .at p)) && fitsTable m c)
+unfolding amendRules
+amend-decides s t m k p c =
+    rw (slot-shown s t m k p, fits-shown s t m k c, ← can (isSlot s p) refl good)
+    (decides-join (slotRules s t p) _ _ _ (slot-decides s t m k p)
+    (decides-join (caseRules (headOf s) c) _ _ _ (case-decides (headOf s) c) (decides-one _ (canTake s t p) _ refl)))
+  where
+    good : Bool
+    good = goodCase (headOf s) (c .inputs) (c .outputs)
+
+    can : (b : Bool) → isSlot s p ≡ b → (g : Bool) → (b && (g && canTake s t p)) ≡ (b && g)
+    can true e true = true-can-take s t p (k .formed) (k .true-tallies) e
+    can true e false = refl
+    can false e g = refl
+
+-- at most 64 cases are held
+cases-most : (s : List ℕ) → length (cases s) ≤ placesMost
+unfolding cases
+cases-most s = cases-few s placesMost
+
+-- there are fewer free places than cases to add exactly if the cases would be too many
+room-left : (n k : ℕ) → n ≤ placesMost → ltb (placesMost - n) k ≡ not (leb (n + k) placesMost)
+room-left n k few = go (leb (n + k) placesMost) refl
+  where
+    go : (b : Bool) → leb (n + k) placesMost ≡ b → ltb (placesMost - n) k ≡ not b
+    go true e = let l = leb-true (n + k) placesMost e in le-ltb (placesMost - n) k (omega arith)
+    go false e = let l = leb-false (n + k) placesMost e in lt-ltb (placesMost - n) k (omega arith)
+
+-- and a load
+load-decides : (s t : List ℕ) (m : Model) → Shows s t m → (file : List ℕ)
+    → Decides (ruling (loadRules s t file))
+    (isFine (ruling (recordRules file)) && (allGood (m .head) (casesIn file) && leb (length (casesHeld m) + length (casesIn file)) placesMost))
+unfolding loadRules roomForRules
+load-decides s t m k file =
+    rw (← shown-cases s t m k, ← k .same-head)
+    (decides-join (formRules s t) _ true _ (form-decides s t (k .formed))
+    (decides-join (recordRules file) _ _ _ (decides-fine (ruling (recordRules file)))
+    (decides-join (casesRules (headOf s) (casesIn file)) _ _ _ (cases-decide (headOf s) (casesIn file))
+    (decides-one _ _ _ (room-left (length (cases s)) (length (casesIn file)) (cases-most s))))))
+
+-- the model that a file leaves, by whether the rules let the file pass: for a table,
+start-taken : (v : Ruling Refusal) (h : Head) (file : List ℕ) (m : Model) → startOr (tableOr v h) file m ≡ cond (isFine v) (startedModel file h) m
+start-taken fine h file m = refl
+start-taken (refused r) h file m = refl
+
+-- and for a record
+load-taken : (v : Ruling Refusal) (n : ℕ) (cs : List Case) (m : Model)
+    → loadOr (recordOr v n) cs m
+    ≡ cond (isFine v && (allGood (m .head) cs && leb (length (casesHeld m) + length cs) placesMost)) (withPlaces m (putAll (m .at) cs)) m
+load-taken fine n cs m = refl
+load-taken (refused r) n cs m = refl
+
+-- a file that the rules let pass is a table
+table-fine : (v : Ruling Refusal) (h : Head) → isFine v ≡ true → tableOr v h ≡ Table h
+table-fine fine h e = refl
+table-fine (refused r) h e = absurd (false≢true e)
+
+-- every call keeps it so, refused or not
+pub call-shows : (c : Call) (s t : List ℕ) (m : Model) → Shows s t m → ShowsMemory (carried c (memory s t)) (step c m)
+unfolding carried step startCall addCall amendCall withdrawCall loadCall tableRead recordRead
+call-shows (start file) s t m k =
+    let room = k .formed .session-room in
+    let rest = k .formed .tallies-room in
+    rw (start-taken (ruling (tableRules file)) (headIn file) file m)
+    (done-shows (ruling (startRules s t file)) 0 s t (started s file) (cleared t) _ m (startedModel file (headIn file)) (start-decides s t file room rest) k
+    (λ e. started-shows s t file (headIn file) room rest (table-fine (ruling (tableRules file)) (headIn file) e)))
+call-shows (add c) s t m k =
+    done-shows (ruling (addRules s t c)) (freePlace s) s t (placed s (freePlace s) c) (raised s c t) _ m _ (add-decides s t m k c) k
+    (λ e. let a = and-true (fitsTable m c) _ e in
+    add-shows s t m k c (sym (fits-shown s t m k c) ∙ a .0) (rw (free-shown s t m k) at (ltb-true (lowest (m .at)) placesMost (a .1))))
+call-shows (amend p c) s t m k =
+    done-shows (ruling (amendRules s t p c)) 0 s t (placed s p c) (raised s c (lowered s (caseOf s p) t)) _ m _ (amend-decides s t m k p c) k
+    (λ e. let a = and-true (ltb p placesMost && isHolding (m .at p)) _ e in
+    amend-shows s t m k p c (sym (slot-shown s t m k p) ∙ a .0) (sym (fits-shown s t m k c) ∙ a .1))
+call-shows (withdraw p) s t m k =
+    done-shows (ruling (withdrawRules s t p)) 0 s t (placed s p noCase) (lowered s (caseOf s p) t) _ m _ (withdraw-decides s t m k p) k
+    (λ e. withdraw-shows s t m k p (sym (slot-shown s t m k p) ∙ e))
+call-shows (load file) s t m k =
+    rw (load-taken (ruling (recordRules file)) (countOf (countIn file)) (casesIn file) m)
+    (done-shows (ruling (loadRules s t file)) (length (casesIn file)) s t (loadedSession s (casesIn file)) (loadedTallies s (casesIn file) t) _ m _
+    (load-decides s t m k file) k
+    (λ e. let a = and-true (isFine (ruling (recordRules file))) _ e in
+    let b = and-true (allGood (m .head) (casesIn file)) _ (a .1) in
+    load-shows s t m (casesIn file) k (subst (λ (h : Head). allGood h (casesIn file) ≡ true) (sym (k .same-head)) (b .0))
+    (rw (← shown-cases s t m k) at (leb-true (length (casesHeld m) + length (casesIn file)) placesMost (b .1)))))
+
+-- so do calls one after the other
+calls-show : (calls : List Call) (x : Memory) (m : Model) → ShowsMemory x m → ShowsMemory (carriedAll calls x) (steps calls m)
+unfolding carriedAll steps
+calls-show [] x m k = k
+calls-show (c ∷ cs) (memory s t) m k = calls-show cs (carried c (memory s t)) (step c m) (call-shows c s t m k)
+
+-- after a start and any list of calls the memory shows the model
+pub history : (s t file : List ℕ) (h : Head) → sessionSize ≤ length s → talliesSize ≤ length t → tableRead file ≡ Table h → (calls : List Call)
+    → ShowsMemory (carriedAll calls (left (startCall s t file))) (steps calls (startedModel file h))
+history s t file h room rest read calls = calls-show calls (left (startCall s t file)) (startedModel file h) (start-shows s t file h room rest read)
+
+module _ (s t : List ℕ) (m : Model) (k : Shows s t m) where
+  -- each tally in use counts the held cases that its changed table fails to reproduce
+  pub shown-tally : (f : ℕ) → f < numbers (m .head) → getD t f 0 ≡ tally (m .head) (m .cells) (casesHeld m) f
+  shown-tally f l =
+      k .true-tallies f (rw (ap numbers (k .same-head)) l) ∙ (λ i. tally (k .same-head i) (k .same-cells i) (shown-cases s t m k i) f)
+
+  -- the list by tallies is the list of the held cases ..
+  list-true : listOf s t ≡ list (headOf s) (cellsOf s) (cases s)
+  unfolding listOf
+  list-true = list-by-tallies (headOf s) (cellsOf s) (cases s) (λ f. getD t f 0) (k .true-tallies)
+
+  -- .. so it is that of the model's cases taken afresh,
+  pub shown-list : listOf s t ≡ list (m .head) (m .cells) (casesHeld m)
+  shown-list = list-true ∙ (λ i. list (k .same-head i) (k .same-cells i) (shown-cases s t m k i))
+
+  -- and so is the verdict
+  pub shown-verdict : verdictIn s t ≡ verdictOf (someFails (m .head) (m .cells) (casesHeld m)) (list (m .head) (m .cells) (casesHeld m))
+  unfolding verdictIn
+  shown-verdict = λ i. verdictOf (someFails (k .same-head i) (k .same-cells i) (shown-cases s t m k i)) (shown-list i)
+
+  -- an audit says true
+  pub shown-audit : auditCall s t ≡ Audited-type.the-variants.True
+  unfolding auditCall falseTally
+  shown-audit = go (ruling (formRules s t)) (form-decides s t (k .formed)) (ltb (falseTally s t) (numbers (headOf s))) refl
+    where
+      wrong : ℕ → Bool
+      wrong f = not (eqb (getD t f 0) (tally (headOf s) (cellsOf s) (cases s) f))
+
+      go : (v : Ruling Refusal) → Decides v true → (b : Bool) → ltb (falseTally s t) (numbers (headOf s)) ≡ b
+          → auditOr v (auditIf b (falseTally s t)) ≡ Audited-type.the-variants.True
+      go fine d false e = refl
+      go fine d true e =
+          let l = ltb-true (falseTally s t) (numbers (headOf s)) e in
+          let bad = not-true _ (first-holds wrong 0 (numbers (headOf s)) (omega arith)) in
+          absurd (true≢false (sym (eq-eqb _ _ (k .true-tallies (falseTally s t) l)) ∙ bad))
+      go (refused r) d b e = absurd (true≢false d)
+
+-- the candidate law: where some case fails, the cell of every listed fault is a candidate
+pub shown-candidate : (s t : List ℕ) (m : Model) (f : ℕ) → Shows s t m → someFails (m .head) (m .cells) (casesHeld m) ≡ true
+    → has f (listOf s t) ≡ true → isCandidate (machineOf s) (cases s) (cellOf (headOf s) f) ≡ true
+shown-candidate s t m f k bad listed =
+    candidate-law (headOf s) (cellsOf s) (cases s) f (cases-good s t (k .formed))
+    ((λ i. someFails (k .same-head i) (k .same-cells i) (shown-cases s t m k i)) ∙ bad) (ap (has f) (sym (list-true s t m k)) ∙ listed)
+
+-- cases that can be run can be recorded
+good-recordable : (h : Head) (cs : List Case) → allGood h cs ≡ true → AllRecordable cs
+unfolding allGood every
+good-recordable h [] e = tt
+good-recordable h (c ∷ cs) e =
+    let g = and-true (goodCase h (c .inputs) (c .outputs)) _ e in
+    let k = case-in h (c .inputs) (c .outputs) (g .0) in
+    (record { some-steps = k .some-steps; few-steps = k .few-steps; even = k .even }, good-recordable h cs (g .1))
+
+-- what is saved loads again as the same cases
+pub shown-saved : (s t : List ℕ) (m : Model) → Shows s t m
+    → (recordRead (recordFile (cases s)) ≡ Record (length (casesHeld m))) × (casesIn (recordFile (cases s)) ≡ casesHeld m)
+shown-saved s t m k =
+    let same = shown-cases s t m k in
+    let back = record-reads-back (cases s) (cases-most s) (good-recordable (headOf s) (cases s) (cases-good s t (k .formed))) in
+    (back .0 ∙ ap (λ (cs : List Case). Record (length cs)) same, back .1 ∙ same)
+
+-- a call that changes one case
+abbrev pub OneCase : Call → Type 0
+OneCase (start file) = ⊥
+OneCase (add c) = Unit {0}
+OneCase (amend p c) = Unit {0}
+OneCase (withdraw p) = Unit {0}
+OneCase (load file) = ⊥
+
+-- tally f of a memory
+abbrev pub tallyIn : Memory → ℕ → ℕ
+tallyIn (memory s t) f = getD t f 0
+
+-- two numbers at most one apart
+abbrev pub WithinOne : ℕ → ℕ → Type 0
+WithinOne a b = (a ≤ b + 1) × (b ≤ a + 1)
+
+-- a number of a list that is changed from its start on stays, or has its change
+edit-either : (g : ℕ → ℕ → ℕ) (n : ℕ) (l : List ℕ) (f : ℕ)
+    → (getD (edit g 0 n l) f 0 ≡ getD l f 0) ⊎ (getD (edit g 0 n l) f 0 ≡ g f (getD l f 0))
+edit-either g n l f = go (ltb f n) refl (ltb f (length l)) refl
+  where
+    go : (a : Bool) → ltb f n ≡ a → (b : Bool) → ltb f (length l) ≡ b
+        → (getD (edit g 0 n l) f 0 ≡ getD l f 0) ⊎ (getD (edit g 0 n l) f 0 ≡ g f (getD l f 0))
+    go true ea true eb =
+        let there = ltb-true f (length l) eb in
+        inr (rw zero-add at (edit-in g 0 n l f (ltb-true f n ea) (omega arith)))
+    go true ea false eb =
+        let past = ltb-false f (length l) eb in
+        let same = length-edit g 0 n l in
+        inl (List·getD-eq-default (edit g 0 n l) 0 {n = f} (omega arith) ∙ sym (List·getD-eq-default l 0 past))
+    go false ea b eb = let past = ltb-false f n ea in inl (edit-out-above g 0 n l f (omega arith))
+
+-- a case counted in adds to each tally at most one,
+raised-few : (s : List ℕ) (c : Case) (t : List ℕ) (f : ℕ) → (getD t f 0 ≤ getD (raised s c t) f 0) × (getD (raised s c t) f 0 ≤ getD t f 0 + 1)
+unfolding raised
+raised-few s c t f = go (edit-either (λ f old. old + miss s c f) (numbers (headOf s)) t f) (miss-few s c f)
+  where
+    go : (getD (raised s c t) f 0 ≡ getD t f 0) ⊎ (getD (raised s c t) f 0 ≡ getD t f 0 + miss s c f) → miss s c f ≤ 1
+        → (getD t f 0 ≤ getD (raised s c t) f 0) × (getD (raised s c t) f 0 ≤ getD t f 0 + 1)
+    go (inl e) few = (omega arith, omega arith)
+    go (inr e) few = (omega arith, omega arith)
+
+-- and one counted out takes at most one away
+lowered-few : (s : List ℕ) (c : Case) (t : List ℕ) (f : ℕ) → (getD t f 0 ≤ getD (lowered s c t) f 0 + 1) × (getD (lowered s c t) f 0 ≤ getD t f 0)
+unfolding lowered
+lowered-few s c t f = go (edit-either (λ f old. old - miss s c f) (numbers (headOf s)) t f) (miss-few s c f)
+  where
+    go : (getD (lowered s c t) f 0 ≡ getD t f 0) ⊎ (getD (lowered s c t) f 0 ≡ getD t f 0 - miss s c f) → miss s c f ≤ 1
+        → (getD t f 0 ≤ getD (lowered s c t) f 0 + 1) × (getD (lowered s c t) f 0 ≤ getD t f 0)
+    go (inl e) few = (omega arith, omega arith)
+    go (inr e) few = (omega arith, omega arith)
+
+-- a call that is refused moves no tally
+outcome-within : (v : Ruling Refusal) (n : ℕ) (s t s′ t′ : List ℕ) (f : ℕ) → WithinOne (getD t f 0) (getD t′ f 0)
+    → WithinOne (getD t f 0) (tallyIn (left (outcomeOr v n s t s′ t′)) f)
+outcome-within fine n s t s′ t′ f w = w
+outcome-within (refused r) n s t s′ t′ f w = (omega arith, omega arith)
+
+-- one case held more moves no tally by more than one: each case of a load too
+pub one-held : (s : List ℕ) (c : Case) (t : List ℕ) (f : ℕ) → WithinOne (getD t f 0) (getD (raised s c t) f 0)
+one-held s c t f = let r = raised-few s c t f in (omega arith, omega arith)
+
+-- changing one case moves no tally by more than one
+pub one-case : (c : Call) → OneCase c → (s t : List ℕ) (m : Model) → Shows s t m
+    → (f : ℕ) → WithinOne (tallyIn (memory s t) f) (tallyIn (carried c (memory s t)) f)
+unfolding carried addCall amendCall withdrawCall
+one-case (start file) one s t m k f = absurd one
+one-case (add c) one s t m k f =
+    outcome-within (ruling (addRules s t c)) (freePlace s) s t (placed s (freePlace s) c) (raised s c t) f (one-held s c t f)
+one-case (amend p c) one s t m k f =
+    let l = lowered-few s (caseOf s p) t f in
+    let r = raised-few s c (lowered s (caseOf s p) t) f in
+    outcome-within (ruling (amendRules s t p c)) 0 s t (placed s p c) (raised s c (lowered s (caseOf s p) t)) f (omega arith, omega arith)
+one-case (withdraw p) one s t m k f =
+    let l = lowered-few s (caseOf s p) t f in
+    outcome-within (ruling (withdrawRules s t p)) 0 s t (placed s p noCase) (lowered s (caseOf s p) t) f (omega arith, omega arith)
+one-case (load file) one s t m k f = absurd one

@@ -7,7 +7,7 @@ use contract.Lifetimes.{Lfts}
 use borrow.Fn.Kinds.{PK, RK, Dens, Out, resT, endedOf}
 use denote.Triple.Clauses.{Lasts, atExit}
 use denote.Ref.{now}
-use Rattle.session.specs.History.{Call, Memory, memory, left, carried}
+use Rattle.session.specs.History.{Call, memory, left, carried}
 use Rattle.session.proofs.calls.start.Kinds as start-kinds
 use Rattle.session.proofs.calls.start.Reads as start-reads
 use Rattle.session.proofs.calls.add.Kinds as add-kinds
@@ -19,32 +19,33 @@ use Rattle.session.proofs.calls.amend.Reads as amend-reads
 use Rattle.session.proofs.calls.load.Kinds as load-kinds
 use Rattle.session.proofs.calls.load.Reads as load-reads
 
-pub start-tied : (κs : Lfts _) (a : Dens κs start-kinds.ps) (z : resT start-kinds.r κs .Denot) (ws : Lasts (endedOf _ start-kinds.ps start-kinds.r) κs a)
-    → start-reads.Post κs a z (atExit (endedOf _ start-kinds.ps start-kinds.r) κs a ws)
-    → memory (ws .0) (ws .1 .0) ≡ carried (Call.start (now (a .1 .1 .0))) (memory (now (a .0)) (now (a .1 .0)))
+-- whatever the contract allows, the arguments and what is left in the lent buffers are so
+abbrev pub Leaves : {n : ℕ} (ps : List (PK n)) (r : RK n) → Out n ps r → ((κs : Lfts n) (a : Dens κs ps) → Lasts (endedOf n ps r) κs a → Type 0) → Type 0
+Leaves {n} ps r Post so =
+    (κs : Lfts n) (a : Dens κs ps) (z : resT r κs .Denot) (ws : Lasts (endedOf n ps r) κs a) → Post κs a z (atExit (endedOf n ps r) κs a ws)
+    → so κs a ws
+
+pub start-tied : Leaves start-kinds.ps start-kinds.r start-reads.Post
+    (λ κs a ws. memory (ws .0) (ws .1 .0) ≡ carried (Call.start (now (a .1 .1 .0))) (memory (now (a .0)) (now (a .1 .0))))
 unfolding carried
 start-tied κs a z ws p = ap left p
 
-pub add-tied : (κs : Lfts _) (a : Dens κs add-kinds.ps) (z : resT add-kinds.r κs .Denot) (ws : Lasts (endedOf _ add-kinds.ps add-kinds.r) κs a)
-    → add-reads.Post κs a z (atExit (endedOf _ add-kinds.ps add-kinds.r) κs a ws)
-    → memory (ws .0) (ws .1 .0) ≡ carried (Call.add (record { inputs = now (a .1 .1 .0); outputs = now (a .1 .1 .1 .0) })) (memory (now (a .0)) (now (a .1 .0)))
+pub add-tied : Leaves add-kinds.ps add-kinds.r add-reads.Post
+    (λ κs a ws. memory (ws .0) (ws .1 .0) ≡ carried (Call.add (record { inputs = now (a .1 .1 .0); outputs = now (a .1 .1 .1 .0) })) (memory (now (a .0)) (now (a .1 .0))))
 unfolding carried
 add-tied κs a z ws p = ap left p
 
-pub withdraw-tied : (κs : Lfts _) (a : Dens κs withdraw-kinds.ps) (z : resT withdraw-kinds.r κs .Denot) (ws : Lasts (endedOf _ withdraw-kinds.ps withdraw-kinds.r) κs a)
-    → withdraw-reads.Post κs a z (atExit (endedOf _ withdraw-kinds.ps withdraw-kinds.r) κs a ws)
-    → memory (ws .0) (ws .1 .0) ≡ carried (Call.withdraw (a .1 .1 .0)) (memory (now (a .0)) (now (a .1 .0)))
+pub withdraw-tied : Leaves withdraw-kinds.ps withdraw-kinds.r withdraw-reads.Post
+    (λ κs a ws. memory (ws .0) (ws .1 .0) ≡ carried (Call.withdraw (a .1 .1 .0)) (memory (now (a .0)) (now (a .1 .0))))
 unfolding carried
 withdraw-tied κs a z ws p = ap left p
 
-pub amend-tied : (κs : Lfts _) (a : Dens κs amend-kinds.ps) (z : resT amend-kinds.r κs .Denot) (ws : Lasts (endedOf _ amend-kinds.ps amend-kinds.r) κs a)
-    → amend-reads.Post κs a z (atExit (endedOf _ amend-kinds.ps amend-kinds.r) κs a ws)
-    → memory (ws .0) (ws .1 .0) ≡ carried (Call.amend (a .1 .1 .0) (record { inputs = now (a .1 .1 .1 .0); outputs = now (a .1 .1 .1 .1 .0) })) (memory (now (a .0)) (now (a .1 .0)))
+pub amend-tied : Leaves amend-kinds.ps amend-kinds.r amend-reads.Post
+    (λ κs a ws. memory (ws .0) (ws .1 .0) ≡ carried (Call.amend (a .1 .1 .0) (record { inputs = now (a .1 .1 .1 .0); outputs = now (a .1 .1 .1 .1 .0) })) (memory (now (a .0)) (now (a .1 .0))))
 unfolding carried
 amend-tied κs a z ws p = ap left p
 
-pub load-tied : (κs : Lfts _) (a : Dens κs load-kinds.ps) (z : resT load-kinds.r κs .Denot) (ws : Lasts (endedOf _ load-kinds.ps load-kinds.r) κs a)
-    → load-reads.Post κs a z (atExit (endedOf _ load-kinds.ps load-kinds.r) κs a ws)
-    → memory (ws .0) (ws .1 .0) ≡ carried (Call.load (now (a .1 .1 .0))) (memory (now (a .0)) (now (a .1 .0)))
+pub load-tied : Leaves load-kinds.ps load-kinds.r load-reads.Post
+    (λ κs a ws. memory (ws .0) (ws .1 .0) ≡ carried (Call.load (now (a .1 .1 .0))) (memory (now (a .0)) (now (a .1 .0))))
 unfolding carried
 load-tied κs a z ws p = ap left p

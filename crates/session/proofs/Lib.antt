@@ -5,6 +5,9 @@ pub mod Stores
 pub mod Tallied
 pub mod Kept
 pub mod True
+pub mod Refused
+pub mod Changed
+pub mod Saved
 pub mod Histories
 pub mod Answers
 pub mod Tied

@@ -1,18 +1,16 @@
+-- `session::form::are_places` meets its contract. The invariant: every place before this one is good.
+-- Assumes nothing.
+use borrow.Author.Count.{below-none, below-more}
 use Prim.Native.Nat.{ℕ, _-_, _≤_, _<_}
 use mathlib.Core.Path.{_≡_, sym}
 use mathlib.Core.Bool.{true}
-use borrow.Author.Count.{below-none, below-more}
+use native.Mathlib.Omega.{arith}
 use Rattle.shapes.proofs.First.{all-from, all-fails}
 use Rattle.shapes.proofs.Tests.{fails, passes}
 use Rattle.session.specs.Layout.{placesMost}
 use Rattle.session.specs.Form.{goodPlace}
-use borrow.Author.Needs.{needs}
-use native.Mathlib.Omega.{arith}
 use Rattle.session.proofs.form.are_places.Statement.{statement}
 use Rattle.session.proofs.form.are_places.Tie as tie
-use Rattle.session.proofs.form.are_places.Reads as reads
-use Rattle.session.proofs.form.are_places.Lts as lts
-use Rattle.session.proofs.form.is_place.Reads as is-place-reads
 
 abbrev Inv-loop : tie.InvT-loop
 Inv-loop session place₀ place = (place ≤ placesMost) × ((p : ℕ) → p < place → goodPlace session p ≡ true)
@@ -20,31 +18,24 @@ Inv-loop session place₀ place = (place ≤ placesMost) × ((p : ℕ) → p < p
 abbrev μ-loop : tie.MeasureT-loop
 μ-loop session place₀ place = placesMost - place
 
--- src/form.rt:107:5
 loop-holds : tie.Need-loop-holds Inv-loop μ-loop
 loop-holds c = (omega arith, below-none _)
 
--- src/form.rt:108:13
 is-place-requires : tie.Need-is-place-requires Inv-loop μ-loop
 is-place-requires c κs = omega arith
 
--- src/form.rt:109:13
 returns : tie.Need-returns Inv-loop μ-loop
 returns c = sym (all-fails _ _ _ (c .before .before .loop-test .taken) (fails (c .before .is-place .ensures) (c .if1 .taken)))
 
--- src/form.rt:111:9
 add-place : tie.Need-add-place Inv-loop μ-loop
 add-place c = omega arith
 
--- src/form.rt:107:5
 loop-less : tie.Need-loop-less Inv-loop μ-loop
 loop-less c = omega arith
 
--- src/form.rt:107:5
 loop-again : tie.Need-loop-again Inv-loop μ-loop
 loop-again c = (omega arith, below-more _ _ (c .before .before .before .loop .inv .1) (passes (c .before .is-place .ensures) (c .if1 .left)))
 
--- src/form.rt:102:1
 returns-2 : tie.Need-returns-2 Inv-loop μ-loop
 returns-2 c = sym (all-from _ _ (λ p l. c .before .loop .inv .1 p (omega arith)))
 

@@ -1,24 +1,19 @@
+-- `session::form::check_room` meets its contract: at each `return` the tests that led there say which rule is the first to refuse.
+-- Assumes nothing.
 use borrow.Author.Tests.{lt-ltb, le-ltb}
 use Rattle.shapes.specs.Refusals.{ruling}
 use Rattle.session.specs.Calls.{roomRules}
-use borrow.Author.Needs.{needs}
-use native.Mathlib.Omega.{arith}
 use Rattle.session.proofs.form.check_room.Statement.{statement}
 use Rattle.session.proofs.form.check_room.Tie as tie
-use Rattle.session.proofs.form.check_room.Reads as reads
-use Rattle.session.proofs.form.check_room.Lts as lts
 
--- src/form.rt:163:9
 returns : tie.Need-returns
 unfolding ruling roomRules
 returns c = rw (lt-ltb _ _ (c .if1 .taken))
 
--- src/form.rt:166:9
 returns-2 : tie.Need-returns-2
 unfolding ruling roomRules
 returns-2 c = rw (le-ltb _ _ (c .before .if1 .left), lt-ltb _ _ (c .if2 .taken))
 
--- src/form.rt:159:1
 returns-3 : tie.Need-returns-3
 unfolding ruling roomRules
 returns-3 c = rw (le-ltb _ _ (c .before .if1 .left), le-ltb _ _ (c .if2 .left))

@@ -1,86 +1,64 @@
+-- `session::form::is_place` meets its contract: at each `return` the tests that led there say what `goodPlace` is.
+-- Assumes nothing.
+use borrow.Author.Needs.{needs}
 use mathlib.Core.Path.{sym, _∙_}
+use native.Mathlib.Omega.{arith}
 use Rattle.shapes.proofs.Tests.{fails, passes}
 use Rattle.session.proofs.Checks.{place-read, place-long, place-unclean, place-free, place-held, case-parts}
-use borrow.Author.Needs.{needs}
-use native.Mathlib.Omega.{arith}
 use Rattle.session.proofs.form.is_place.Statement.{statement}
 use Rattle.session.proofs.form.is_place.Tie as tie
-use Rattle.session.proofs.form.is_place.Reads as reads
-use Rattle.session.proofs.form.is_place.Lts as lts
-use Rattle.machine.proofs.case.is_case.Reads as is-case-reads
-use Rattle.session.proofs.form.is_clean.Reads as is-clean-reads
-use Rattle.session.proofs.layout.Place.of.Reads as of-reads
-use Rattle.session.proofs.layout.head_of.Reads as head-of-reads
 
--- src/form.rt:81:9
 of-requires : tie.Need-of-requires
 of-requires c κs = search needs
 
--- src/form.rt:84:9
 returns : tie.Need-returns
 returns c = sym (place-long _ _ (omega (arith, place-read (c .before .before .before .args .session .now) (c .before .before .before .args .place) (c .before .of .ensures .0))))
 
--- src/form.rt:86:9
 is-clean-requires : tie.Need-is-clean-requires
 is-clean-requires c κs = omega (arith, place-read (c .before .before .before .args .session .now) (c .before .before .before .args .place) (c .before .of .ensures .0))
 
--- src/form.rt:87:9
 returns-2 : tie.Need-returns-2
 returns-2 c = sym (place-unclean _ _ (omega (arith, place-read (c .before .before .before .before .before .args .session .now) (c .before .before .before .before .before .args .place) (c .before .before .before .of .ensures .0))) (fails (c .before .is-clean .ensures) (c .if2 .taken)))
 
--- src/form.rt:90:9
 returns-3 : tie.Need-returns-3
 returns-3 c = sym (place-free _ _ (omega (arith, place-read (c .before .before .before .before .before .before .args .session .now) (c .before .before .before .before .before .before .args .place) (c .before .before .before .before .of .ensures .0))) (passes (c .before .before .is-clean .ensures) (c .before .if2 .left)) (omega (arith, place-read (c .before .before .before .before .before .before .args .session .now) (c .before .before .before .before .before .before .args .place) (c .before .before .before .before .of .ensures .0))))
 
--- src/form.rt:92:18
 add-inputs : tie.Need-add-inputs
 add-inputs c = omega (arith, place-read (c .before .before .before .before .before .before .before .args .session .now) (c .before .before .before .before .before .before .before .args .place) (c .before .before .before .before .before .of .ensures .0))
 
--- src/form.rt:93:19
 add-outputs : tie.Need-add-outputs
 add-outputs c = omega (arith, place-read (c .before .before .before .before .before .before .before .args .session .now) (c .before .before .before .before .before .before .before .args .place) (c .before .before .before .before .before .of .ensures .0))
 
--- src/form.rt:95:9
 head-of-requires : tie.Need-head-of-requires
 head-of-requires c κs = search needs
 
--- src/form.rt:96:26
 add-is-case : tie.Need-add-is-case
 add-is-case c = omega (arith, place-read (c .before .before .before .before .before .before .before .before .args .session .now) (c .before .before .before .before .before .before .before .before .args .place) (c .before .before .before .before .before .before .of .ensures .0))
 
--- src/form.rt:96:9
 sub-is-case : tie.Need-sub-is-case
 sub-is-case c = search needs
 
--- src/form.rt:96:9
 part-is-case-start : tie.Need-part-is-case-start
 part-is-case-start c = search needs
 
--- src/form.rt:96:9
 part-is-case-end : tie.Need-part-is-case-end
 part-is-case-end c = omega (arith, place-read (c .before .before .before .before .before .before .before .before .args .session .now) (c .before .before .before .before .before .before .before .before .args .place) (c .before .before .before .before .before .before .of .ensures .0))
 
--- src/form.rt:97:27
 add-is-case-2 : tie.Need-add-is-case-2
 add-is-case-2 c = omega (arith, place-read (c .before .before .before .before .before .before .before .before .before .args .session .now) (c .before .before .before .before .before .before .before .before .before .args .place) (c .before .before .before .before .before .before .before .of .ensures .0))
 
--- src/form.rt:97:9
 sub-is-case-2 : tie.Need-sub-is-case-2
 sub-is-case-2 c = search needs
 
--- src/form.rt:97:9
 part-is-case-start-2 : tie.Need-part-is-case-start-2
 part-is-case-start-2 c = search needs
 
--- src/form.rt:97:9
 part-is-case-end-2 : tie.Need-part-is-case-end-2
 part-is-case-end-2 c = omega (arith, place-read (c .before .before .before .before .before .before .before .before .before .args .session .now) (c .before .before .before .before .before .before .before .before .before .args .place) (c .before .before .before .before .before .before .before .of .ensures .0))
 
--- src/form.rt:94:5
 is-case-requires : tie.Need-is-case-requires
 is-case-requires c κs = search needs
 
--- src/form.rt:77:1
 returns-4 : tie.Need-returns-4
 returns-4 c = c .is-case .ensures ∙ case-parts _ _ (c .before .before .before .before .before .before .before .before .before .of .ensures .0) (c .before .before .before .head-of .ensures) ∙ sym (place-held _ _ (omega (arith, place-read (c .before .before .before .before .before .before .before .before .before .before .before .args .session .now) (c .before .before .before .before .before .before .before .before .before .before .before .args .place) (c .before .before .before .before .before .before .before .before .before .of .ensures .0))) (passes (c .before .before .before .before .before .before .before .is-clean .ensures) (c .before .before .before .before .before .before .if2 .left)) (λ e. c .before .before .before .before .before .if3 .left (place-read (c .before .before .before .before .before .before .before .before .before .before .before .args .session .now) (c .before .before .before .before .before .before .before .before .before .before .before .args .place) (c .before .before .before .before .before .before .before .before .before .of .ensures .0) .1 ∙ e)))
 

@@ -8,6 +8,7 @@ pub mod True
 pub mod Refused
 pub mod Changed
 pub mod Saved
+pub mod Listed
 pub mod Histories
 pub mod Answers
 pub mod Tied

@@ -192,6 +192,17 @@ record-count file n e =
     let c : countIn file ≡ Cases n = rw (t .1) (record-sound file (t .0) .1) in
     (c, omega (arith, count-bounds file casesMost restAt 0 n c))
 
+-- so many cases from a place on are so many,
+cases-length : (file : List ℕ) (n at : ℕ) → length (casesFrom file n at) ≡ n
+unfolding casesFrom
+cases-length file zero at = refl
+cases-length file (suc n) at = ap suc (cases-length file n _)
+
+-- and a record has as many cases as were counted
+pub cases-counted : (file : List ℕ) → length (casesIn file) ≡ countOf (countIn file)
+unfolding casesIn
+cases-counted file = cases-length file (countOf (countIn file)) _
+
 -- a case has a length byte, and a byte for each input and output
 length-bytes : (c : Case) → length (caseBytes c) ≡ 1 + (length (c .inputs) + length (c .outputs))
 unfolding caseBytes

@@ -1,8 +1,8 @@
 -- The calls that change a session: what is known where no rule of a call refuses, what the call then answers and leaves, and a record's cases
 -- held one after the other: what is left to hold makes of the session so far what all the cases make of the session as it was.
 -- Assumes nothing.
-use Prim.Native.Nat.{ℕ, zero, suc, _+_, _-_, _≤_, _<_}
-use mathlib.Core.Path.{_≡_, refl, sym, ap, subst, _∙_}
+use Prim.Native.Nat.{ℕ, suc, _+_, _-_, _≤_, _<_}
+use mathlib.Core.Path.{_≡_, refl, sym, subst, _∙_}
 use mathlib.Core.Bool.{Bool, true, false, cond}
 use mathlib.Core.List.{List, [], _∷_}
 use borrow.Author.Tests.{ltb-false, leb-false, not-false}
@@ -30,30 +30,17 @@ use Rattle.house.specs.declared.refusal.Checked.the-variants.{Fine, Refused}
 use Rattle.house.specs.declared.refusal.Answer as Answer-type
 use Rattle.house.specs.declared.cases.RecordFile.{RecordFile}
 use Rattle.house.specs.declared.cases.RecordFile as RecordFile-type
-use Rattle.house.proofs.Forms.{checked-fine, checked-refused}
+use Rattle.house.proofs.Records.{cases-counted}
 use Rattle.house.proofs.Places.{place-next}
 use Rattle.diagnosis.specs.Diagnosis.{allGood}
 use Rattle.session.specs.Layout.{placesMost, sessionSize, talliesSize, headOf, cellsOf, caseOf, cases, freePlace, noCase}
 use Rattle.session.specs.Form.{tallyMost, Formed}
-use Rattle.session.specs.Calls.{after, outcomeOr, roomRules, formRules, isSlot, slotRules, canTake, raised, lowered, placed, addRules, addCall, withdrawRules, withdrawCall, amendRules, amendCall, roomForRules, loadRules, loadCall, loadedSession, loadedTallies}
+use Rattle.session.specs.Calls.{after, outcomeOr, formRules, isSlot, slotRules, canTake, raised, lowered, placed, addRules, addCall, withdrawRules, withdrawCall, amendRules, amendCall, roomForRules, loadRules, loadCall, loadedSession, loadedTallies}
 use Rattle.session.proofs.Formed.{formed-table, formed-tally, table-good, cases-few}
 use Rattle.session.proofs.Stored.{head-placed, cells-placed, length-placed}
 use Rattle.session.proofs.Tallied.{lowered-in, length-lowered, length-raised}
 use Rattle.session.proofs.Kept.{good-fits, slot-inside, add-count, add-keeps, loaded-same, free-left, cells-few}
-
--- a session that no rule for form refuses is well-formed
-form-known : (s t : List ℕ) → ruling (formRules s t) ≡ fine → Formed s t
-unfolding formRules roomRules
-form-known s t e =
-    let a = fine-when (formRules s t) .0 e in
-    record { session-room = ltb-false _ _ (a .0); tallies-room = ltb-false _ _ (a .1 .0); form = not-false _ (a .1 .1 .0) }
-
--- a place that no rule refuses holds a case
-slot-known : (s t : List ℕ) (p : ℕ) → ruling (slotRules s t p) ≡ fine → Formed s t × (isSlot s p ≡ true)
-unfolding slotRules
-slot-known s t p e =
-    let a = ruling-joined (formRules s t) _ e in
-    (form-known s t (a .0), not-false _ (fine-when _ .0 (a .1) .0))
+use Rattle.session.proofs.Known.{told-fine, told-refused, rules-formed, rules-slot, slot-room}
 
 -- a case that no rule refuses can be run
 case-known : (h : Head) (c : Case) → ruling (caseRules h c) ≡ fine → goodCase h (c .inputs) (c .outputs) ≡ true
@@ -134,62 +121,62 @@ module _ (s t : List ℕ) (c : Case) (x : Checked) (e : x ≡ checked (ruling (a
   -- an addition that the check refuses is refused so, and changes nothing;
   pub add-refused : {r : Refusal} → x ≡ Refused r → after (Answer-type.the-variants.Refused r) s t ≡ addCall s t c
   unfolding addCall
-  add-refused d = rw (checked-refused (ruling (addRules s t c)) (sym e ∙ d))
+  add-refused d = rw (told-refused (ruling (addRules s t c)) e d)
 
   module _ (d : x ≡ Fine) where
     -- one that is not is of a case that can be run, with a place free for it,
     pub add-known : Formed s t × ((goodCase (headOf s) (c .inputs) (c .outputs) ≡ true) × (freePlace s < placesMost))
     unfolding addRules
     add-known =
-        let a = ruling-joined (formRules s t) _ (checked-fine _ (sym e ∙ d)) in
+        let a = ruling-joined (formRules s t) _ (told-fine _ e d) in
         let b = ruling-joined (caseRules (headOf s) c) _ (a .1) in
-        (form-known s t (a .0), (case-known (headOf s) c (b .0), leb-false _ _ (fine-when _ .0 (b .1) .0)))
+        (rules-formed s t (a .0), (case-known (headOf s) c (b .0), leb-false _ _ (fine-when _ .0 (b .1) .0)))
 
     -- and answers and leaves what an addition is to
     pub add-done : {n : ℕ} {s′ t′ : List ℕ} → n ≡ freePlace s → s′ ≡ placed s (freePlace s) c → t′ ≡ raised s c t
         → after (Answer-type.the-variants.Done n) s′ t′ ≡ addCall s t c
     unfolding addCall
-    add-done a b f = rw (checked-fine (ruling (addRules s t c)) (sym e ∙ d), a, b, f)
+    add-done a b f = rw (told-fine (ruling (addRules s t c)) e d, a, b, f)
 
 module _ (s t : List ℕ) (p : ℕ) (x : Checked) (e : x ≡ checked (ruling (withdrawRules s t p))) where
   -- a withdrawal that the check refuses is refused so, and changes nothing;
   pub withdraw-refused : {r : Refusal} → x ≡ Refused r → after (Answer-type.the-variants.Refused r) s t ≡ withdrawCall s t p
   unfolding withdrawCall
-  withdraw-refused d = rw (checked-refused (ruling (withdrawRules s t p)) (sym e ∙ d))
+  withdraw-refused d = rw (told-refused (ruling (withdrawRules s t p)) e d)
 
   module _ (d : x ≡ Fine) where
     -- one that is not is of a case that is held and can be counted out of the tallies,
     pub withdraw-known : Formed s t × ((isSlot s p ≡ true) × (canTake s t p ≡ true))
     unfolding withdrawRules
     withdraw-known =
-        let a = ruling-joined (slotRules s t p) _ (checked-fine _ (sym e ∙ d)) in
-        let b = slot-known s t p (a .0) in
+        let a = ruling-joined (slotRules s t p) _ (told-fine _ e d) in
+        let b = rules-slot s t p (a .0) in
         (b .0, (b .1, not-false _ (fine-when _ .0 (a .1) .0)))
 
     -- whose place can be cleared;
     pub clear-known : (sessionSize ≤ length s) × (p < placesMost)
-    clear-known = let k = withdraw-known in (k .0 .session-room, slot-inside s p (k .1 .0))
+    clear-known = let k = withdraw-known in slot-room s t p (k .0, k .1 .0)
 
     -- and answers and leaves what a withdrawal is to
     pub withdraw-done : {s′ t′ : List ℕ} → s′ ≡ placed s p noCase → t′ ≡ lowered s (caseOf s p) t
         → after (Answer-type.the-variants.Done 0) s′ t′ ≡ withdrawCall s t p
     unfolding withdrawCall
-    withdraw-done a b = rw (checked-fine (ruling (withdrawRules s t p)) (sym e ∙ d), a, b)
+    withdraw-done a b = rw (told-fine (ruling (withdrawRules s t p)) e d, a, b)
 
 module _ (s t : List ℕ) (p : ℕ) (c : Case) (x : Checked) (e : x ≡ checked (ruling (amendRules s t p c))) where
   -- an amendment that the check refuses is refused so, and changes nothing;
   pub amend-refused : {r : Refusal} → x ≡ Refused r → after (Answer-type.the-variants.Refused r) s t ≡ amendCall s t p c
   unfolding amendCall
-  amend-refused d = rw (checked-refused (ruling (amendRules s t p c)) (sym e ∙ d))
+  amend-refused d = rw (told-refused (ruling (amendRules s t p c)) e d)
 
   module _ (d : x ≡ Fine) where
     -- one that is not is of a case that can be run, for one that is held and can be counted out of the tallies,
     amend-known : (Formed s t × ((isSlot s p ≡ true) × (canTake s t p ≡ true))) × (goodCase (headOf s) (c .inputs) (c .outputs) ≡ true)
     unfolding amendRules
     amend-known =
-        let a = ruling-joined (slotRules s t p) _ (checked-fine _ (sym e ∙ d)) in
+        let a = ruling-joined (slotRules s t p) _ (told-fine _ e d) in
         let b = ruling-joined (caseRules (headOf s) c) _ (a .1) in
-        let k = slot-known s t p (a .0) in
+        let k = rules-slot s t p (a .0) in
         ((k .0, (k .1, not-false _ (fine-when _ .0 (b .1) .0))), case-known (headOf s) c (b .0))
 
     -- so that the old case can be counted out,
@@ -208,18 +195,7 @@ module _ (s t : List ℕ) (p : ℕ) (c : Case) (x : Checked) (e : x ≡ checked 
     pub amend-done : {s′ t′ t″ : List ℕ} → s′ ≡ placed s p c → t′ ≡ lowered s (caseOf s p) t → t″ ≡ raised s c t′
         → after (Answer-type.the-variants.Done 0) s′ t″ ≡ amendCall s t p c
     unfolding amendCall
-    amend-done a b f = rw (checked-fine (ruling (amendRules s t p c)) (sym e ∙ d), a, f, b)
-
--- so many cases from a place on are so many
-from-count : (file : List ℕ) (n at : ℕ) → length (casesFrom file n at) ≡ n
-unfolding casesFrom
-from-count file zero at = refl
-from-count file (suc n) at = ap suc (from-count file n (caseEnd file at))
-
--- a record has as many cases as are counted in it
-in-count : (file : List ℕ) → length (casesIn file) ≡ countOf (countIn file)
-unfolding casesIn
-in-count file = from-count file (countOf (countIn file)) restAt
+    amend-done a b f = rw (told-fine (ruling (amendRules s t p c)) e d, a, f, b)
 
 module _ (s t file : List ℕ) (x : RecordFile) (e : x ≡ recordOr (ruling (loadRules s t file)) (countOf (countIn file))) where
   -- a load that the check refuses is refused so, and changes nothing;
@@ -254,13 +230,13 @@ module _ (s t file : List ℕ) (x : RecordFile) (e : x ≡ recordOr (ruling (loa
         let b = ruling-joined (recordRules file) _ (a .1) in
         let g = ruling-joined (casesRules (headOf s) (casesIn file)) _ (b .1) in
         let l : length (casesIn file) ≤ placesMost - length (cases s) = ltb-false _ _ (fine-when _ .0 (g .1) .0) in
-        (form-known s t (a .0), (b .0, (load-counted .1, (cases-known (headOf s) (casesIn file) (g .0), omega (arith, held-few s)))))
+        (rules-formed s t (a .0), (b .0, (load-counted .1, (cases-known (headOf s) (casesIn file) (g .0), omega (arith, held-few s)))))
 
     -- and what a load is to answer and to leave
     pub load-done : {s′ t′ : List ℕ} → s′ ≡ loadedSession s (casesIn file) → t′ ≡ loadedTallies s (casesIn file) t
         → after (Answer-type.the-variants.Done n) s′ t′ ≡ loadCall s t file
     unfolding loadCall
-    load-done a b = rw (load-counted .0, a, b, load-counted .1, in-count file)
+    load-done a b = rw (load-counted .0, a, b, load-counted .1, cases-counted file)
 
 -- where holding a record's cases stands: before case i, at its place, with what is left to hold
 pub record Holding (s t file : List ℕ) (count i at : ℕ) (s′ t′ : List ℕ) : Type 0 where
@@ -289,7 +265,7 @@ module _ (s t file : List ℕ) (count : ℕ) where
         stored = rw (sub-zero, e);
         counted = rw (sub-zero, e);
         good = rw (sub-zero, e) g;
-        room = rw (sub-zero, e, ← in-count file) l;
+        room = rw (sub-zero, e, ← cases-counted file) l;
       }
 
   module _ (i at : ℕ) (s′ t′ : List ℕ) (h : Holding s t file count i at s′ t′) where

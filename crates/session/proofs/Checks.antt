@@ -71,16 +71,6 @@ module _ (s : List ℕ) (p : ℕ) {here : Place} (e : here ≡ record { at = pla
   unfolding zerosAfter
   clean-rest f = let g = rw e at f in rw (e, g)
 
-  -- its case, as the code takes it
-  pub case-parts : {h : Head} → h ≡ headOf s
-      → goodCase h (take (here .at + 1 + here .steps - (here .at + 1)) (drop (here .at + 1) s)) (take (here .at + 1 + stepsMost + here .steps - (here .at + 1 + stepsMost)) (drop (here .at + 1 + stepsMost) s))
-      ≡ goodCase (headOf s) (caseOf s p .inputs) (caseOf s p .outputs)
-  unfolding caseOf
-  case-parts h =
-      let i : here .at + 1 + here .steps - (here .at + 1) ≡ here .steps = omega arith in
-      let o : here .at + 1 + stepsMost + here .steps - (here .at + 1 + stepsMost) ≡ here .steps = omega arith in
-      rw (i, o, h, e)
-
 module _ (s : List ℕ) (p : ℕ) where
   -- a place is not good where its length byte is too high,
   pub place-long : stepsMost < stepsOf s p → goodPlace s p ≡ false

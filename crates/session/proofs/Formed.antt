@@ -54,9 +54,13 @@ form-parts s t e =
 pub formed-table : (s t : List ℕ) → Formed s t → goodTable s ≡ true
 formed-table s t k = form-parts s t (k .form) .0
 
--- .. so is each place, ..
+-- .. so are all the places, ..
+pub formed-places : (s t : List ℕ) → Formed s t → allTo (goodPlace s) placesMost ≡ true
+formed-places s t k = form-parts s t (k .form) .1
+
+-- .. each of them, ..
 pub formed-place : (s t : List ℕ) → Formed s t → (p : ℕ) → p < placesMost → goodPlace s p ≡ true
-formed-place s t k = all-at (goodPlace s) placesMost (form-parts s t (k .form) .1)
+formed-place s t k = all-at (goodPlace s) placesMost (formed-places s t k)
 
 -- .. and no tally is above its most
 pub formed-tally : (s t : List ℕ) → Formed s t → (f : ℕ) → f < talliesSize → getD t f 0 ≤ tallyMost s f
@@ -77,6 +81,11 @@ formed-from s t room tallies table places low =
       tallies-room = tallies;
       form = all-three table (all-from (goodPlace s) placesMost places) (all-from (λ f. leb (getD t f 0) (tallyMost s f)) talliesSize (λ f l. le-leb _ _ (low f l)));
     }
+
+-- a good place has at most 64 steps
+pub place-few : (s : List ℕ) (p : ℕ) → goodPlace s p ≡ true → stepsOf s p ≤ stepsMost
+unfolding goodPlace
+place-few s p good = leb-true _ _ (and-true _ _ good .0)
 
 -- a good place that is held holds a case that can be run
 pub place-good : (s : List ℕ) (p : ℕ) → goodPlace s p ≡ true → isHeld s p ≡ true → goodCase (headOf s) (caseOf s p .inputs) (caseOf s p .outputs) ≡ true

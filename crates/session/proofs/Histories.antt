@@ -42,9 +42,9 @@ use Rattle.session.specs.Reads.{machineOf, listOf, verdictIn, falseTally
 use Rattle.session.specs.History.{Call, start, add, amend, withdraw, load, Memory, memory, left, carried, carriedAll, Slot, free, holds, Model, isHolding, slotCases, casesTo, casesHeld, lowest, put, putAll, withPlaces, cellBytes, startedModel, fitsTable, startOr, loadOr, step, steps, slotOf, Shows}
 use Rattle.session.specs.declared.read.Audited as Audited-type
 use Rattle.session.proofs.Formed.{cases-good, cases-few}
-use Rattle.session.proofs.Stored.{Fits, head-placed, cells-placed, case-placed, held-placed, steps-elsewhere, case-elsewhere}
+use Rattle.session.proofs.Stored.{Fits, no-fits, head-placed, cells-placed, case-placed, held-placed, steps-elsewhere, case-elsewhere}
 use Rattle.session.proofs.Tallied.{miss-few}
-use Rattle.session.proofs.Kept.{good-fits, good-fills, no-fits, slot-inside, places-few, add-count, add-keeps, withdraw-keeps, amend-keeps, start-keeps, loaded-same, free-left, started-byte, started-free, table-short, started-table}
+use Rattle.session.proofs.Kept.{good-fits, good-fills, slot-inside, places-few, add-count, add-keeps, withdraw-keeps, amend-keeps, start-keeps, loaded-same, free-left, started-byte, started-free, table-short, started-table}
 use Rattle.session.proofs.True.{add-true, true-can-take, withdraw-true, amend-true, start-true}
 
 -- what a memory shows

@@ -10,7 +10,7 @@ use native.Mathlib.Omega.{arith}
 use lib.Dec.{eqb, ltb}
 use lib.ListN.{length, getD, length-append, List·getD-eq-default}
 use lib.Seq.{getD-take, getD-drop}
-use borrow.Author.Tests.{eqb-true, eqb-false, eq-eqb, ne-eqb, leb-true, ltb-true, ltb-false}
+use borrow.Author.Tests.{eqb-true, eqb-false, eq-eqb, ne-eqb, ltb-true, ltb-false}
 use Rattle.shapes.specs.First.{zeros}
 use Rattle.shapes.specs.Keep.{bit, count, every}
 use Rattle.shapes.specs.Edit.{edit}
@@ -32,8 +32,8 @@ use Rattle.diagnosis.specs.Diagnosis.{misses, allGood}
 use Rattle.session.specs.Layout.{placesMost, placesAt, cellsAt, cellsRoom, sessionSize, talliesSize, headOf, cellsOf, placeAt, stepsOf, isHeld, caseOf, heldTo, cases, freePlace, noCase}
 use Rattle.session.specs.Form.{goodTable, zerosAfter, goodPlace, tallyMost, Formed}
 use Rattle.session.specs.Calls.{isSlot, miss, canTake, raised, lowered, placed, started, cleared, loadedSession, loadedTallies}
-use Rattle.session.proofs.Formed.{formed-table, formed-place, formed-tally, formed-from, free-low, free-none}
-use Rattle.session.proofs.Stored.{Fits, length-placed, head-placed, cells-placed, table-placed, place-elsewhere, place-stored, place-cleared, cases-around}
+use Rattle.session.proofs.Formed.{formed-table, formed-place, formed-tally, formed-from, place-few, free-low, free-none}
+use Rattle.session.proofs.Stored.{Fits, no-fits, length-placed, head-placed, cells-placed, table-placed, place-elsewhere, place-stored, place-cleared, cases-around}
 use Rattle.session.proofs.Tallied.{raised-in, raised-out, length-raised, lowered-in, lowered-out, length-lowered, miss-few, can-take-at}
 
 -- a list of cases with one more somewhere in it
@@ -59,10 +59,6 @@ good-fits h c e = let k = case-in h (c .inputs) (c .outputs) e in record { few =
 pub good-fills : (h : Head) (c : Case) → goodCase h (c .inputs) (c .outputs) ≡ true → not (eqb (length (c .inputs)) 0) ≡ true
 good-fills h c e = let l = case-in h (c .inputs) (c .outputs) e .some-steps in rw (ne-eqb (length (c .inputs)) 0 (λ z. omega arith))
 
--- no case fits too
-pub no-fits : Fits noCase
-no-fits = record { few = omega arith; even = refl }
-
 -- a place that can be withdrawn or amended is one of the 64, and holds a case
 pub slot-inside : (s : List ℕ) (p : ℕ) → isSlot s p ≡ true → p < placesMost
 unfolding isSlot
@@ -75,8 +71,7 @@ slot-held s p e = and-true (ltb p placesMost) _ e .1
 module _ (s t : List ℕ) (k : Formed s t) where
   -- no place has more than 64 steps
   pub places-few : (q : ℕ) → q < placesMost → stepsOf s q ≤ stepsMost
-  unfolding goodPlace
-  places-few q l = leb-true _ _ (and-true _ _ (formed-place s t k q l) .0)
+  places-few q l = place-few s q (formed-place s t k q l)
 
   module _ (p : ℕ) (l : p < placesMost) where
     -- what a place holds is one more than is held without it,

@@ -5,6 +5,7 @@ pub mod Stores
 pub mod Tallied
 pub mod Kept
 pub mod True
+pub mod Known
 pub mod Refused
 pub mod Changed
 pub mod Saved

@@ -1,32 +1,28 @@
 -- What the calls that read a session say of their definitions: the listed numbers one by one, the held cases place by place, and each
 -- call's answer from its checks. Assumes nothing.
 use Prim.Native.Nat.{ℕ, zero, suc, _+_, _-_, _≤_, _<_}
-use mathlib.Core.Path.{_≡_, refl, sym, ap, _∙_}
+use mathlib.Core.Path.{_≡_, refl, sym, _∙_}
 use mathlib.Core.List.{List, [], _∷_, _++_, append-nil}
 use mathlib.Core.Bool.{Bool, true, false, not, _&&_, _||_}
 use mathlib.Core.Logic.{_⊎_, inl, inr}
-use borrow.Author.Tests.{lt-ltb, le-ltb, ltb-true, ltb-false, leb-true, not-true, not-false, eq-eqb, ne-eqb}
+use borrow.Author.Tests.{lt-ltb, le-ltb, eq-eqb, ne-eqb}
 use native.Mathlib.Nat.{zero-add, add-zero, sub-zero, eq-or-lt-of-le}
 use native.Mathlib.Numerals.{add-one}
 use native.Mathlib.Omega.{arith}
-use lib.Dec.{eqb, ltb}
-use lib.ListN.{length, getD, set, take, drop, length-append}
+use lib.Dec.{eqb}
+use lib.ListN.{length, getD, set, length-append}
 use mir.Val.{boolByte}
-use Rattle.shapes.specs.First.{first, allTo}
+use Rattle.shapes.specs.First.{first}
 use Rattle.shapes.specs.Edit.{filled}
 use Rattle.shapes.specs.Keep.{keepIf, keepTo, count, some}
 use Rattle.shapes.specs.Refusals.{ruling}
-use Rattle.shapes.proofs.First.{all-from}
 use Rattle.shapes.proofs.Edit.{length-filled, filled-one, filled-append}
 use Rattle.shapes.proofs.Keep.{keep-more}
-use Rattle.shapes.proofs.Refusals.{ruling-join-refused, ruling-join-fine, ruling-joined, fine-when}
-use Rattle.shapes.proofs.Tests.{and-true}
-use Rattle.machine.specs.Limits.{stepsMost}
+use Rattle.shapes.proofs.Refusals.{ruling-join-refused, ruling-join-fine}
 use Rattle.machine.specs.Head.{numbers}
 use Rattle.machine.specs.Machine.{specified}
 use Rattle.machine.specs.Fault.{isFault}
-use Rattle.machine.specs.Cell.{TableIn}
-use Rattle.machine.specs.Case.{Case, CaseIn}
+use Rattle.machine.specs.Case.{Case}
 use Rattle.machine.specs.Run.{symptomsOf}
 use Rattle.machine.specs.declared.head.Head.{Head}
 use Rattle.machine.specs.declared.replay.Symptoms.{Symptoms}
@@ -38,17 +34,15 @@ use Rattle.house.proofs.Forms.{checked-fine, checked-refused}
 use Rattle.diagnosis.specs.Diagnosis.{fails, misses, tally, someFails, verdictOf}
 use Rattle.diagnosis.specs.declared.Verdict.{Verdict}
 use Rattle.diagnosis.specs.declared.Verdict.the-variants as verdicts
-use Rattle.session.specs.Layout.{placesMost, sessionSize, headOf, cellsOf, placeAt, stepsOf, isHeld, caseOf, caseIf, heldTo, cases}
-use Rattle.session.specs.Form.{goodTable, goodPlace, Formed}
-use Rattle.session.specs.Calls.{roomRules, formRules, isSlot, slotRules}
+use Rattle.session.specs.Layout.{headOf, cellsOf, placeAt, stepsOf, isHeld, caseOf, caseIf, heldTo, cases}
+use Rattle.session.specs.Calls.{formRules, slotRules}
 use Rattle.session.specs.Reads.{machineOf, listOf, verdictIn, verdictBy, listRules, listed, listCall, falseTally, auditCall, symptomsCall}
 use Rattle.session.specs.declared.layout.Place.{Place}
 use Rattle.session.specs.declared.read.Listing.the-variants as listings
 use Rattle.session.specs.declared.read.Audited.the-variants as audits
 use Rattle.session.specs.declared.read.Shown.the-variants as shows
-use Rattle.session.proofs.Checks.{free-here, held-here}
 use Rattle.session.proofs.Stores.{bit-told}
-use Rattle.session.proofs.Formed.{table-good, formed-place, place-case}
+use Rattle.session.proofs.Known.{caseRead, parts-case, parts-read}
 
 -- a number more that is kept counts as one, else as none
 pub keep-counted : (p : ℕ → Bool) (n m : ℕ) {r : Bool} → r ≡ p n → m ≡ length (keepTo p n) → m + boolByte r ≡ length (keepTo p (n + 1))
@@ -203,61 +197,23 @@ pub false-begins : (s t : List ℕ) {n : ℕ} → n ≡ numbers (headOf s) → f
 unfolding falseTally
 false-begins s t e = rw (sub-zero, e)
 
--- the two parts of a session that the code takes as the case of a place that it read
-abbrev pub caseRead : List ℕ → Place → Case
-caseRead s here =
-    record {
-      inputs = take (here .at + 1 + here .steps - (here .at + 1)) (drop (here .at + 1) s);
-      outputs = take (here .at + 1 + stepsMost + here .steps - (here .at + 1 + stepsMost)) (drop (here .at + 1 + stepsMost) s);
-    }
+module _ (s : List ℕ) (p : ℕ) {here : Place} (e : here ≡ record { at = placeAt p; steps = stepsOf s p }) {h : Head} (same : h ≡ headOf s) where
+  -- what is told of the two parts that were read is told of the case: whether it fails,
+  pub failing-told : {r : Bool} → r ≡ fails (specified h (cellsOf s)) (caseRead s here) → isHeld s p ≡ true
+      → r ≡ (isHeld s p && fails (machineOf s) (caseOf s p))
+  failing-told d k = rw k (d ∙ rw (parts-case s p e, same))
 
-module _ (s : List ℕ) (p : ℕ) {here : Place} (e : here ≡ record { at = placeAt p; steps = stepsOf s p }) where
-  -- a place that was read stands where it does, and a good one is short
-  pub place-short : goodPlace s p ≡ true → (here .at ≡ placeAt p) × (here .steps ≤ stepsMost)
-  unfolding goodPlace
-  place-short g = rw e (refl, leb-true _ _ (and-true _ _ g .0))
+  -- whether a number's machine misses it,
+  pub missed-told : (f : ℕ) {r : Bool} → r ≡ misses h (cellsOf s) f (caseRead s here) → isHeld s p ≡ true
+      → (boolByte r ≡ count (misses (headOf s) (cellsOf s) f) (caseIf (isHeld s p) (caseOf s p))) × (boolByte r ≤ 1)
+  unfolding count
+  missed-told f d k =
+      let told : _ ≡ misses (headOf s) (cellsOf s) f (caseOf s p) = d ∙ rw (parts-case s p e, same) in rw (k, add-zero) (bit-told told)
 
-  -- it is held where its length byte is not 0,
-  pub held-read : (here .steps ≡ 0 → ⊥) → isHeld s p ≡ true
-  held-read z = not-false _ (held-here s p e z)
-
-  -- and free where it is
-  pub free-read : here .steps ≡ 0 → isHeld s p ≡ false
-  free-read z = not-true _ (free-here s p e z)
-
-  -- the two parts are its case
-  case-read : caseRead s here ≡ caseOf s p
-  unfolding caseOf
-  case-read =
-      let i : here .at + 1 + here .steps - (here .at + 1) ≡ here .steps = omega arith in
-      let o : here .at + 1 + stepsMost + here .steps - (here .at + 1 + stepsMost) ≡ here .steps = omega arith in
-      rw (i, o, e)
-
-  module _ {h : Head} (same : h ≡ headOf s) where
-    -- so what is known of the case of a good place is known of them,
-    pub case-known : goodPlace s p ≡ true → isHeld s p ≡ true → CaseIn h (caseRead s here .inputs) (caseRead s here .outputs)
-    case-known g k = rw (same, ap (λ (c : Case). c .inputs) case-read, ap (λ (c : Case). c .outputs) case-read) (place-case s p g k)
-
-    -- and what is told of them is told of it: whether it fails,
-    pub failing-told : {r : Bool} → r ≡ fails (specified h (cellsOf s)) (caseRead s here) → isHeld s p ≡ true
-        → r ≡ (isHeld s p && fails (machineOf s) (caseOf s p))
-    failing-told d k = rw k (d ∙ rw (case-read, same))
-
-    -- whether a number's machine misses it,
-    pub missed-told : (f : ℕ) {r : Bool} → r ≡ misses h (cellsOf s) f (caseRead s here) → isHeld s p ≡ true
-        → (boolByte r ≡ count (misses (headOf s) (cellsOf s) f) (caseIf (isHeld s p) (caseOf s p))) × (boolByte r ≤ 1)
-    unfolding count
-    missed-told f d k =
-        let told : _ ≡ misses (headOf s) (cellsOf s) f (caseOf s p) = d ∙ rw (case-read, same) in rw (k, add-zero) (bit-told told)
-
-    -- and its symptoms
-    pub symptoms-told : {x : Symptoms} → x ≡ symptomsOf (specified h (cellsOf s)) (caseRead s here .inputs) (caseRead s here .outputs)
-        → x ≡ symptomsOf (machineOf s) (caseOf s p .inputs) (caseOf s p .outputs)
-    symptoms-told d = d ∙ rw (same, ap (λ (c : Case). c .inputs) case-read, ap (λ (c : Case). c .outputs) case-read)
-
--- the table of a session, with the head read from it
-pub table-known : (s : List ℕ) {h : Head} → h ≡ headOf s → sessionSize ≤ length s → goodTable s ≡ true → TableIn h (cellsOf s)
-table-known s e room g = rw e (table-good s room g)
+  -- and its symptoms
+  pub symptoms-told : {x : Symptoms} → x ≡ symptomsOf (specified h (cellsOf s)) (caseRead s here .inputs) (caseRead s here .outputs)
+      → x ≡ symptomsOf (machineOf s) (caseOf s p .inputs) (caseOf s p .outputs)
+  symptoms-told d = d ∙ rw (same, parts-read s p e .0, parts-read s p e .1)
 
 -- some case fails and something is listed: a fault is found
 pub verdict-found : (n : ℕ) → (n ≡ 0 → ⊥) → verdicts.Found ≡ verdictBy true n
@@ -270,27 +226,7 @@ verdict-counted false l = refl
 verdict-counted true [] = refl
 verdict-counted true (f ∷ l) = refl
 
--- what is known of a place that is not refused
-pub record SlotIn (s t : List ℕ) (p : ℕ) : Type 0 where
-  pub formed : Formed s t
-  pub inside : p < placesMost
-  pub held : isHeld s p ≡ true
-  pub good : goodPlace s p ≡ true
-
 module _ (s t : List ℕ) where
-  -- a session that is found fine is well-formed,
-  pub formed-known : checked (ruling (formRules s t)) ≡ Fine → Formed s t
-  unfolding formRules roomRules
-  formed-known e =
-      let j = ruling-joined (roomRules s t) _ (checked-fine _ e) in
-      let a = fine-when (roomRules s t) .0 (j .0) in
-      let b = fine-when _ .0 (j .1) in
-      record { session-room = ltb-false _ _ (a .0); tallies-room = ltb-false _ _ (a .1 .0); form = not-false _ (b .0) }
-
-  -- so all its places are good
-  pub places-known : Formed s t → allTo (goodPlace s) placesMost ≡ true
-  places-known k = all-from (goodPlace s) placesMost (formed-place s t k)
-
   module _ (out : List ℕ) where
     -- a listing of a session that is refused is refused so,
     pub list-refused : {r : Refusal} → checked (ruling (formRules s t)) ≡ Refused r → listed (listings.Refused r) out ≡ listCall s t out
@@ -332,18 +268,8 @@ module _ (s t : List ℕ) where
     unfolding symptomsCall
     symptoms-refused e = rw (checked-refused (ruling (slotRules s t p)) e)
 
-    module _ (fit : checked (ruling (slotRules s t p)) ≡ Fine) where
-      -- and else they are shown,
-      pub symptoms-shown : {x : Symptoms} → x ≡ symptomsOf (machineOf s) (caseOf s p .inputs) (caseOf s p .outputs) → shows.Symptoms x ≡ symptomsCall s t p
-      unfolding symptomsCall
-      symptoms-shown d = rw (checked-fine (ruling (slotRules s t p)) fit, d)
-
-      -- of a place that holds a case in a session that is well-formed
-      pub slot-known : SlotIn s t p
-      unfolding slotRules isSlot
-      slot-known =
-          let j = ruling-joined (formRules s t) _ (checked-fine (ruling (slotRules s t p)) fit) in
-          let k = and-true (ltb p placesMost) (isHeld s p) (not-false _ (fine-when _ .0 (j .1) .0)) in
-          let f = formed-known (rw (j .0)) in
-          let l = ltb-true p placesMost (k .0) in
-          record { formed = f; inside = l; held = k .1; good = formed-place s t f p l }
+    -- and else they are shown
+    pub symptoms-shown : {x : Symptoms} → checked (ruling (slotRules s t p)) ≡ Fine
+        → x ≡ symptomsOf (machineOf s) (caseOf s p .inputs) (caseOf s p .outputs) → shows.Symptoms x ≡ symptomsCall s t p
+    unfolding symptomsCall
+    symptoms-shown fit d = rw (checked-fine (ruling (slotRules s t p)) fit, d)

@@ -1,51 +1,38 @@
 -- A check goes through a call's rules part by part: what a part refuses the call refuses, and where it says nothing the rest decides.
--- What each test of a check says of its rule, and what is known where a check found nothing wrong.
+-- What each test of a check says of its rule, and what counting a case out of the tallies finds.
 -- Assumes nothing.
-use Prim.Native.Nat.{ℕ, zero, suc, _+_, _-_, _≤_, _<_}
-use mathlib.Core.Path.{_≡_, refl, sym, ap, _∙_}
+use Prim.Native.Nat.{ℕ, _-_, _≤_, _<_}
+use mathlib.Core.Path.{_≡_, sym, ap, _∙_}
 use mathlib.Core.Bool.{Bool, true, false, not, _&&_}
 use mathlib.Core.List.{List, _++_}
-use borrow.Author.Tests.{leb-true, le-leb, lt-leb, lt-ltb, le-ltb, not-false}
+use borrow.Author.Tests.{le-leb, lt-leb, lt-ltb, le-ltb}
 use native.Mathlib.Omega.{arith}
 use lib.Dec.{ltb, leb}
-use lib.ListN.{length, getD, take, drop}
+use lib.ListN.{length, getD}
 use Rattle.shapes.specs.First.{allTo}
 use Rattle.shapes.specs.Refusals.{Rule, Ruling, fine, refused, ruling}
 use Rattle.shapes.proofs.Refusals.{ruling-join-refused, ruling-join-fine, ruling-joined, fine-when, refused-when}
-use Rattle.shapes.proofs.Tests.{and-true}
-use Rattle.machine.specs.Limits.{stepsMost}
 use Rattle.machine.specs.Head.{numbers}
-use Rattle.machine.specs.Cell.{TableIn}
-use Rattle.machine.specs.Case.{Case, CaseIn}
+use Rattle.machine.specs.Case.{Case}
 use Rattle.machine.specs.declared.head.Head.{Head}
 use Rattle.house.specs.Refusal.{checked}
 use Rattle.house.specs.Table.{tableRules, tableRead}
-use Rattle.house.specs.Cases.{countIn, countOf, recordOr, casesFrom, casesIn, caseRules, casesRules}
+use Rattle.house.specs.Cases.{countIn, countOf, recordOr, casesIn, caseRules, casesRules}
 use Rattle.house.specs.declared.refusal.Refusal.{Refusal}
 use Rattle.house.specs.declared.refusal.Checked.{Checked}
 use Rattle.house.specs.declared.refusal.Checked.the-variants.{Fine, Refused}
 use Rattle.house.specs.declared.refusal.Answer as Answer-type
 use Rattle.house.specs.declared.table.TableFile as TableFile-type
 use Rattle.house.specs.declared.cases.RecordFile as RecordFile-type
-use Rattle.house.proofs.Forms.{checked-fine, checked-refused}
 use Rattle.house.proofs.Tables.{table-refused, table-taken}
-use Rattle.session.specs.Layout.{placesMost, sessionSize, talliesSize, headOf, cellsOf, placeAt, stepsOf, isHeld, caseOf, cases, freePlace}
-use Rattle.session.specs.Form.{goodPlace, Formed}
-use Rattle.session.specs.Calls.{after, roomRules, formRules, isSlot, slotRules, miss, canTake, lowered, started, cleared, startRules, startCall}
-use Rattle.session.specs.declared.layout.Place.{Place}
-use Rattle.session.proofs.Checks.{room-known, place-read}
-use Rattle.session.proofs.Formed.{formed-table, formed-place, table-good, place-case}
+use Rattle.house.proofs.Records.{cases-counted}
+use Rattle.session.specs.Layout.{placesMost, sessionSize, talliesSize, headOf, isHeld, caseOf, cases, freePlace}
+use Rattle.session.specs.Form.{Formed}
+use Rattle.session.specs.Calls.{after, roomRules, isSlot, miss, canTake, lowered, started, cleared, startRules, startCall}
+use Rattle.session.proofs.Checks.{room-known}
 use Rattle.session.proofs.Tallied.{can-take-at}
-use Rattle.session.proofs.Kept.{slot-inside, slot-held, withdraw-count}
-
-module _ (v : Ruling Refusal) {x : Checked} (e : x ≡ checked v) where
-  -- what a check answered its rules say: nothing,
-  pub told-fine : x ≡ Fine → v ≡ fine
-  told-fine d = checked-fine v (sym e ∙ d)
-
-  -- or a refusal
-  pub told-refused : {r : Refusal} → x ≡ Refused r → v ≡ refused r
-  told-refused d = checked-refused v (sym e ∙ d)
+use Rattle.session.proofs.Kept.{withdraw-count}
+use Rattle.session.proofs.Known.{told-fine, told-refused}
 
 module _ (l m : List (Rule Refusal)) {x : Checked} (e : x ≡ checked (ruling l)) where
   -- where the check of the first rules finds nothing wrong the other rules decide,
@@ -83,17 +70,6 @@ module _ (s : List ℕ) {h : Head} (same : h ≡ headOf s) {x : Checked} where
   pub cases-told : (cs : List Case) → x ≡ checked (ruling (casesRules h cs)) → x ≡ checked (ruling (casesRules (headOf s) cs))
   cases-told cs e = rw same at e
 
--- so many cases from a place on are so many,
-cases-length : (file : List ℕ) (n at : ℕ) → length (casesFrom file n at) ≡ n
-unfolding casesFrom
-cases-length file zero at = refl
-cases-length file (suc n) at = ap suc (cases-length file n _)
-
--- and a record has as many cases as were counted
-pub cases-counted : (file : List ℕ) → length (casesIn file) ≡ countOf (countIn file)
-unfolding casesIn
-cases-counted file = cases-length file (countOf (countIn file)) _
-
 module _ (s t file : List ℕ) {x : Checked} (e : x ≡ checked (ruling (startRules s t file))) where
   -- a start that is refused leaves what was lent to it,
   pub start-refused : {r : Refusal} → x ≡ Refused r → after (Answer-type.the-variants.Refused r) s t ≡ startCall s t file
@@ -111,21 +87,6 @@ module _ (s t file : List ℕ) {x : Checked} (e : x ≡ checked (ruling (startRu
       → after (Answer-type.the-variants.Done 0) s′ t′ ≡ startCall s t file
   unfolding startCall
   start-done d p q = rw (told-fine (ruling (startRules s t file)) e d, p, q)
-
-module _ (s t : List ℕ) where
-  -- a session that no rule for form refuses is well-formed,
-  pub rules-formed : ruling (formRules s t) ≡ fine → Formed s t
-  unfolding formRules
-  rules-formed e =
-      let j = ruling-joined (roomRules s t) _ e in
-      let room = room-known s t (ap checked (j .0)) in
-      record { session-room = room .0; tallies-room = room .1; form = not-false _ (fine-when _ .0 (j .1) .0) }
-
-  -- and a place that no rule for places refuses holds a case
-  pub rules-slot : (p : ℕ) → ruling (slotRules s t p) ≡ fine → (Formed s t) × (isSlot s p ≡ true)
-  unfolding slotRules
-  rules-slot p e =
-      let j = ruling-joined (formRules s t) _ e in (rules-formed (j .0), not-false _ (fine-when _ .0 (j .1) .0))
 
 module _ (s : List ℕ) (p : ℕ) where
   -- a place over 63 holds no case,
@@ -156,33 +117,9 @@ module _ (s file : List ℕ) {held count : ℕ} (e : held ≡ length (cases s)) 
   pub uncrowded : count ≤ placesMost - held → ltb (placesMost - length (cases s)) (length (casesIn file)) ≡ false
   uncrowded l = le-ltb (placesMost - length (cases s)) (length (casesIn file)) (omega (arith, cases-counted file))
 
--- the two parts of a session that the code takes a case from are the case
-pub parts-case : (s : List ℕ) (p : ℕ) {here : Place} → here ≡ record { at = placeAt p; steps = stepsOf s p }
-    → _≡_ {A = Case} (record { inputs = take (here .at + 1 + here .steps - (here .at + 1)) (drop (here .at + 1) s); outputs = take (here .at + 1 + stepsMost + here .steps - (here .at + 1 + stepsMost)) (drop (here .at + 1 + stepsMost) s) }) (caseOf s p)
-unfolding caseOf
-parts-case s p {here} e =
-    let i : here .at + 1 + here .steps - (here .at + 1) ≡ here .steps = omega arith in
-    let o : here .at + 1 + stepsMost + here .steps - (here .at + 1 + stepsMost) ≡ here .steps = omega arith in
-    rw (i, o, e)
-
-module _ (s t : List ℕ) (p : ℕ) (k : Formed s t) (slot : isSlot s p ≡ true) where
-  -- some case is held where one is at a place,
-  pub slot-some : 1 ≤ length (cases s)
-  slot-some = omega (arith, withdraw-count s t p k slot)
-
-  -- the place that was read ends inside the session,
-  pub slot-ends : {here : Place} → here ≡ record { at = placeAt p; steps = stepsOf s p } → here .at + 1 + stepsMost + here .steps ≤ sessionSize
-  unfolding goodPlace
-  slot-ends e =
-      let few : stepsOf s p ≤ stepsMost = leb-true _ _ (and-true _ _ (formed-place s t k p (slot-inside s p slot)) .0) in
-      omega (arith, place-read s p e, slot-inside s p slot)
-
-  -- and its table and the case were tested
-  pub slot-runs : {c : Case} → c ≡ caseOf s p → (TableIn (headOf s) (cellsOf s)) × (CaseIn (headOf s) (c .inputs) (c .outputs))
-  slot-runs e = (
-    table-good s (k .session-room) (formed-table s t k),
-    rw e (place-case s p (formed-place s t k p (slot-inside s p slot)) (slot-held s p slot)),
-  )
+-- some case is held where one is at a place
+pub slot-some : (s t : List ℕ) (p : ℕ) → Formed s t × (isSlot s p ≡ true) → 1 ≤ length (cases s)
+slot-some s t p k = omega (arith, withdraw-count s t p (k .0) (k .1))
 
 module _ (s t : List ℕ) (p : ℕ) {c : Case} (e : c ≡ caseOf s p) where
   -- whether a case can be taken away, as the code finds it

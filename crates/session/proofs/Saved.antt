@@ -1,29 +1,25 @@
--- What saving, the conflict set and the candidates find in a session: the held cases' bytes one after the other, by rising place; the two
--- parts that are a place's case; and what all held cases, taken in one after the other, leave of candidates.
+-- What saving, the conflict set and the candidates find in a session: the held cases' bytes one after the other, by rising place; and
+-- what all held cases, taken in one after the other, leave of candidates.
 -- Assumes nothing.
 use Prim.Native.Nat.{ℕ, zero, suc, _+_, _-_, _*_, _≤_, _<_}
 use mathlib.Core.Path.{_≡_, refl, sym, ap, _∙_}
 use mathlib.Core.List.{List, [], _∷_, _++_, append-nil, append-assoc}
-use mathlib.Core.Bool.{Bool, true, false, cond, not, _&&_, _||_, true≢false}
+use mathlib.Core.Bool.{Bool, true, false, cond, not, _&&_, _||_}
 use mathlib.Core.Logic.{_⊎_, inl, inr}
 use native.Mathlib.Nat.{zero-add, eq-or-lt-of-le}
 use native.Mathlib.Numerals.{add-one}
 use native.Mathlib.Omega.{arith}
-use borrow.Author.Tests.{leb-true, ltb-false, lt-ltb, le-ltb, not-true, not-false}
-use lib.ListN.{length, getD, take, drop, length-append, length-drop}
+use borrow.Author.Tests.{lt-ltb, le-ltb}
+use lib.ListN.{length, getD, length-append, length-drop}
 use lib.Seq.{length-take-le}
-use Rattle.shapes.specs.First.{allTo}
 use Rattle.shapes.specs.Edit.{edit, filled}
 use Rattle.shapes.specs.Keep.{bit, every}
 use Rattle.shapes.specs.Refusals.{Rule, when, fine, refused, ruling}
-use Rattle.shapes.proofs.First.{all-from}
 use Rattle.shapes.proofs.Edit.{length-edit, edit-in, edit-out-above, edit-kept, edit-ext, length-filled, filled-append}
-use Rattle.shapes.proofs.Refusals.{ruling-here, ruling-past, ruling-end, ruling-join-refused, ruling-join-fine, fine-when}
-use Rattle.shapes.proofs.Tests.{and-true}
+use Rattle.shapes.proofs.Refusals.{ruling-here, ruling-past, ruling-end, ruling-join-refused, ruling-join-fine}
 use Rattle.machine.specs.Limits.{cellsMost, stepsMost}
 use Rattle.machine.specs.Machine.{Machine, specified}
-use Rattle.machine.specs.Cell.{TableIn}
-use Rattle.machine.specs.Case.{Case, CaseIn}
+use Rattle.machine.specs.Case.{Case}
 use Rattle.machine.specs.declared.head.Head.{Head}
 use Rattle.house.specs.File.{restAt, fileHead, fileOf}
 use Rattle.house.specs.Cases.{caseBytes, restOf, recordFile}
@@ -32,21 +28,14 @@ use Rattle.house.specs.declared.refusal.Checked as Checked-type
 use Rattle.house.specs.declared.refusal.Answer as Answer-type
 use Rattle.house.specs.declared.refusal.Refusal.{Refusal}
 use Rattle.house.specs.declared.refusal.Refusal.the-variants.{Short}
-use Rattle.house.proofs.Forms.{checked-fine, checked-refused}
 use Rattle.diagnosis.specs.Diagnosis.{fails, someFails, conflicts, conflictBytes, isCandidate, narrowed, Bits}
 use Rattle.session.specs.Layout.{placesMost, sessionSize, headOf, cellsOf, placeAt, stepsOf, isHeld, caseOf, caseIf, heldTo, cases}
-use Rattle.session.specs.Form.{goodTable, goodPlace, Formed}
-use Rattle.session.specs.Calls.{roomRules, formRules, isSlot, slotRules}
+use Rattle.session.specs.Form.{goodPlace}
+use Rattle.session.specs.Calls.{formRules, slotRules}
 use Rattle.session.specs.Reads.{machineOf, saveRules, saveCall, bytesRules, conflictCall, narrowedIf, narrowedAll, candidateBytes, candidatesCall}
 use Rattle.session.specs.declared.layout.Place.{Place}
-use Rattle.session.proofs.Checks.{place-read, free-here, held-here}
-use Rattle.session.proofs.Formed.{table-good, formed-table, formed-place, place-case}
-use Rattle.session.proofs.Kept.{slot-inside, slot-held}
-
--- a good place has at most 64 steps
-place-few : (s : List ℕ) (p : ℕ) → goodPlace s p ≡ true → stepsOf s p ≤ stepsMost
-unfolding goodPlace
-place-few s p good = leb-true _ _ (and-true _ _ good .0)
+use Rattle.session.proofs.Formed.{place-few}
+use Rattle.session.proofs.Known.{told-fine, told-refused, held-read, free-read, place-within}
 
 -- a place inside a session, with at most 64 steps
 module _ (s : List ℕ) (p : ℕ) (room : sessionSize ≤ length s) (inside : p < placesMost) (few : stepsOf s p ≤ stepsMost) where
@@ -79,49 +68,21 @@ pub filled-none : (l : List ℕ) (at : ℕ) → filled l at [] ≡ l
 unfolding filled edit
 filled-none l at = refl
 
--- a place that was read
-module _ (s : List ℕ) (p : ℕ) {here : Place} (e : here ≡ record { at = placeAt p; steps = stepsOf s p }) where
-  -- it is free where its length byte is 0, and else it is held
-  is-free : here .steps ≡ 0 → isHeld s p ≡ false
-  is-free z = not-true _ (free-here s p e z)
-
-  is-held : (here .steps ≡ 0 → ⊥) → isHeld s p ≡ true
-  is-held z = not-false _ (held-here s p e z)
-
-  -- the two parts of the session that the code takes are its case
-  pub parts-case : _≡_ {A = Case}
-      (record {
-        inputs = take (here .at + 1 + here .steps - (here .at + 1)) (drop (here .at + 1) s);
-        outputs = take (here .at + 1 + stepsMost + here .steps - (here .at + 1 + stepsMost)) (drop (here .at + 1 + stepsMost) s);
-      })
-      (caseOf s p)
-  unfolding caseOf
-  parts-case =
-      let i : here .at + 1 + here .steps - (here .at + 1) ≡ here .steps = omega arith in
-      let o : here .at + 1 + stepsMost + here .steps - (here .at + 1 + stepsMost) ≡ here .steps = omega arith in
-      rw (i, o, e)
-
 -- a good place that was read
 module _ (s : List ℕ) (p : ℕ) (room : sessionSize ≤ length s) (inside : p < placesMost) (good : goodPlace s p ≡ true) {here : Place}
     (e : here ≡ record { at = placeAt p; steps = stepsOf s p }) where
-  -- where it stands, and how many steps it has
-  pub place-within : (here .at ≡ placeAt p) × ((here .steps ≡ stepsOf s p) × (here .steps ≤ stepsMost))
-  place-within =
-      let k = place-read s p e in
-      let f = place-few s p good in (k .0, (k .1, omega arith))
-
   -- the bytes of a free place: none
   pub bytes-free : here .steps ≡ 0 → restOf (caseIf (isHeld s p) (caseOf s p)) ≡ []
-  bytes-free z = rw (is-free s p e z) (rest-none (caseOf s p))
+  bytes-free z = rw (free-read s p e z) (rest-none (caseOf s p))
 
   -- those of a held one: its case's,
   bytes-held : (here .steps ≡ 0 → ⊥) → restOf (caseIf (isHeld s p) (caseOf s p)) ≡ caseBytes (caseOf s p)
-  bytes-held z = rw (is-held s p e z) (rest-one (caseOf s p))
+  bytes-held z = rw (held-read s p e z) (rest-one (caseOf s p))
 
   -- as many as the code counts
   pub bytes-count : (here .steps ≡ 0 → ⊥) → 1 + 2 * here .steps ≡ length (restOf (caseIf (isHeld s p) (caseOf s p)))
   bytes-count z =
-      rw (bytes-held z, case-long s p room inside (place-few s p good)) (omega (arith, place-within))
+      rw (bytes-held z, case-long s p room inside (place-few s p good)) (omega (arith, place-within s p e good))
 
   -- a held place's case can be written where its bytes have room,
   pub put-fits : {c : Case} (at n : ℕ) → c ≡ caseOf s p → (here .steps ≡ 0 → ⊥)
@@ -131,7 +92,7 @@ module _ (s : List ℕ) (p : ℕ) (room : sessionSize ≤ length s) (inside : p 
       let few = place-few s p good in
       let i = inputs-long s p room inside few in
       let o = outputs-long s p room inside few in
-      rw ec ((omega arith, o ∙ sym i), omega (arith, bytes-count z, place-within))
+      rw ec ((omega arith, o ∙ sym i), omega (arith, bytes-count z, place-within s p e good))
 
   -- and once written it stands there
   pub put-bytes : {c : Case} (at r : ℕ) (l out : List ℕ) → c ≡ caseOf s p → (here .steps ≡ 0 → ⊥)
@@ -140,21 +101,16 @@ module _ (s : List ℕ) (p : ℕ) (room : sessionSize ≤ length s) (inside : p 
   put-bytes at r l out ec z k =
       let k′ = rw ec at k in
       let i = inputs-long s p room inside (place-few s p good) in
-      (omega (arith, bytes-count z, place-within), rw (bytes-held z) (k′ .1))
-
-  -- its case can be run against the session's table
-  pub held-asked : {h : Head} {c : Case} → h ≡ headOf s → c ≡ caseOf s p → goodTable s ≡ true → (here .steps ≡ 0 → ⊥)
-      → TableIn h (cellsOf s) × CaseIn h (c .inputs) (c .outputs)
-  held-asked eh ec table z = rw (eh, ec) (table-good s room table, place-case s p good (is-held s p e z))
+      (omega (arith, bytes-count z, place-within s p e good), rw (bytes-held z) (k′ .1))
 
   -- a free place leaves the candidates,
   pub free-narrows : (out : List ℕ) → here .steps ≡ 0 → out ≡ narrowedIf (isHeld s p) (machineOf s) (caseOf s p) out
-  free-narrows out z = rw (is-free s p e z)
+  free-narrows out z = rw (free-read s p e z)
 
   -- and a held one narrows them by its case
   pub held-narrows : {h : Head} {c : Case} (l out : List ℕ) → h ≡ headOf s → c ≡ caseOf s p → (here .steps ≡ 0 → ⊥)
       → l ≡ narrowed (specified h (cellsOf s)) c out → l ≡ narrowedIf (isHeld s p) (machineOf s) (caseOf s p) out
-  held-narrows l out eh ec z k = rw (is-held s p e z) (rw (eh, ec) at k)
+  held-narrows l out eh ec z k = rw (held-read s p e z) (rw (eh, ec) at k)
 
 -- the bytes of cases before others are the bytes of both, one after the other
 rest-append : (a b : List Case) → restOf (a ++ b) ≡ restOf a ++ restOf b
@@ -234,34 +190,23 @@ last-refuses l r f e = ruling-join-fine l _ f ∙ ruling-here r [] e
 last-passes : {b : Bool} (l : List (Rule Refusal)) (r : Refusal) → ruling l ≡ fine → b ≡ false → ruling (l ++ (when b r ∷ [])) ≡ fine
 last-passes l r f e = ruling-join-fine l _ f ∙ (ruling-past r [] e ∙ ruling-end)
 
--- in a well-formed session every place is good
-pub formed-places : (s t : List ℕ) → Formed s t → allTo (goodPlace s) placesMost ≡ true
-formed-places s t k = all-from (goodPlace s) placesMost (formed-place s t k)
-
 -- what the check of a session's form found
 module _ (s t : List ℕ) {x : Checked-type.Checked} (e : x ≡ checked (ruling (formRules s t))) where
   -- where it refuses, so do saving and the candidates
   pub save-refused : {r : Refusal} (out : List ℕ) → x ≡ Checked-type.the-variants.Refused r
       → wrote (Answer-type.the-variants.Refused r) out ≡ saveCall s t out
   unfolding saveCall saveRules
-  save-refused out q = rw (ruling-join-refused (formRules s t) _ _ (checked-refused _ (sym e ∙ q)))
+  save-refused out q = rw (ruling-join-refused (formRules s t) _ _ (told-refused _ e q))
 
   pub candidates-refused : {r : Refusal} (out : List ℕ) → x ≡ Checked-type.the-variants.Refused r
       → wrote (Answer-type.the-variants.Refused r) out ≡ candidatesCall s t out
   unfolding candidatesCall
-  candidates-refused out q = rw (ruling-join-refused (formRules s t) _ _ (checked-refused _ (sym e ∙ q)))
+  candidates-refused out q = rw (ruling-join-refused (formRules s t) _ _ (told-refused _ e q))
 
   module _ (q : x ≡ Checked-type.the-variants.Fine) where
     -- where it does not, no rule refuses,
     form-rules : ruling (formRules s t) ≡ fine
-    form-rules = checked-fine _ (sym e ∙ q)
-
-    -- and the session is well-formed;
-    pub form-found : Formed s t
-    unfolding formRules roomRules
-    form-found =
-        let a = fine-when (formRules s t) .0 form-rules in
-        record { session-room = ltb-false _ _ (a .0); tallies-room = ltb-false _ _ (a .1 .0); form = not-false _ (a .1 .1 .0) }
+    form-rules = told-fine _ e q
 
     -- a buffer too short for the record is refused,
     pub save-short : (n : ℕ) (out : List ℕ) → n ≡ length (recordFile (cases s)) → length out < n
@@ -303,41 +248,12 @@ module _ (s t : List ℕ) (p : ℕ) {x : Checked-type.Checked} (e : x ≡ checke
   pub conflict-refused : {r : Refusal} (out : List ℕ) → x ≡ Checked-type.the-variants.Refused r
       → wrote (Answer-type.the-variants.Refused r) out ≡ conflictCall s t p out
   unfolding conflictCall
-  conflict-refused out q = rw (ruling-join-refused (slotRules s t p) _ _ (checked-refused _ (sym e ∙ q)))
+  conflict-refused out q = rw (ruling-join-refused (slotRules s t p) _ _ (told-refused _ e q))
 
   module _ (q : x ≡ Checked-type.the-variants.Fine) where
     -- where it does not, no rule refuses,
     slot-rules : ruling (slotRules s t p) ≡ fine
-    slot-rules = checked-fine _ (sym e ∙ q)
-
-    -- the session is well-formed and the place is one that holds a case;
-    slot-parts : Formed s t × (isSlot s p ≡ true)
-    unfolding slotRules formRules roomRules
-    slot-parts =
-        let a = fine-when (slotRules s t p) .0 slot-rules in (
-          record { session-room = ltb-false _ _ (a .0); tallies-room = ltb-false _ _ (a .1 .0); form = not-false _ (a .1 .1 .0) },
-          not-false _ (a .1 .1 .1 .0),
-        )
-
-    -- so there is room for the places, of which this is one,
-    pub slot-inside-room : (sessionSize ≤ length s) × (p < placesMost)
-    slot-inside-room = (slot-parts .0 .session-room, slot-inside s p (slot-parts .1))
-
-    module _ {here : Place} (eh : here ≡ record { at = placeAt p; steps = stepsOf s p }) where
-      -- it is good,
-      slot-good : goodPlace s p ≡ true
-      slot-good = formed-place s t (slot-parts .0) p (slot-inside-room .1)
-
-      -- it has few steps,
-      pub slot-within : ((sessionSize ≤ length s) × (p < placesMost))
-          × ((here .at ≡ placeAt p) × ((here .steps ≡ stepsOf s p) × (here .steps ≤ stepsMost)))
-      slot-within = (slot-inside-room, place-within s p (slot-inside-room .0) (slot-inside-room .1) slot-good eh)
-
-      -- and its case can be run against the session's table;
-      pub slot-asked : {h : Head} {c : Case} → h ≡ headOf s → c ≡ caseOf s p → TableIn h (cellsOf s) × CaseIn h (c .inputs) (c .outputs)
-      slot-asked k ec =
-          held-asked s p (slot-inside-room .0) (slot-inside-room .1) slot-good eh k ec (formed-table s t (slot-parts .0))
-          (λ z. true≢false (sym (slot-held s p (slot-parts .1)) ∙ is-free s p eh z))
+    slot-rules = told-fine _ e q
 
     -- a buffer too short for 256 bytes is refused,
     pub conflict-short : (out : List ℕ) → length out < cellsMost → wrote (Answer-type.the-variants.Refused (Short 0)) out ≡ conflictCall s t p out

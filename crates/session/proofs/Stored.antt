@@ -254,12 +254,12 @@ module _ (s : List ℕ) (room : sessionSize ≤ length s) (p : ℕ) (inside : p 
       either false b k = k
 
 -- the case of a free place fits
-no-case-fits : Fits noCase
-no-case-fits = record { few = omega arith; even = refl }
+pub no-fits : Fits noCase
+no-fits = record { few = omega arith; even = refl }
 
 -- a place is good that was cleared
 pub place-cleared : (s : List ℕ) → sessionSize ≤ length s → (p : ℕ) → p < placesMost → goodPlace (placed s p noCase) p ≡ true
-place-cleared s room p inside = good-placed s room p inside noCase no-case-fits refl
+place-cleared s room p inside = good-placed s room p inside noCase no-fits refl
 
 -- the cases of the n places from place p on
 heldFrom : List ℕ → ℕ → ℕ → List Case

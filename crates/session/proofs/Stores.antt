@@ -12,7 +12,7 @@ use lib.ListN.{length, getD, set}
 use mir.Val.{boolByte}
 use Rattle.shapes.specs.Edit.{edit}
 use Rattle.shapes.specs.Keep.{bit}
-use Rattle.shapes.proofs.Edit.{edit-compose, edit-ext, edit-out-above}
+use Rattle.shapes.proofs.Edit.{edit-same, edit-compose, edit-out-above}
 use Rattle.machine.specs.Limits.{stepsMost}
 use Rattle.machine.specs.Head.{numbers}
 use Rattle.machine.specs.Case.{Case}
@@ -40,10 +40,6 @@ output-byte c i =
     let e : 1 + stepsMost + i - (1 + stepsMost) ≡ i = omega arith in
     rw (ne-eqb (1 + stepsMost + i) 0 (λ z. omega arith), le-ltb (1 + stepsMost + i) (1 + stepsMost) (omega arith), e)
 
--- two changes that agree on the part are one
-edit-as : (f g : ℕ → ℕ → ℕ) (at n : ℕ) (l : List ℕ) → ((i x : ℕ) → i < n → f i x ≡ g i x) → edit f at n l ≡ edit g at n l
-edit-as f g at n l agree = edit-ext f g at n l l refl (λ j h. refl) (λ j h k. refl) (λ i h k. agree i (getD l (at + i) 0) h)
-
 -- the count stored, then the inputs, then the outputs, is a whole place stored
 case-stored : (c : Case) (at : ℕ) (l : List ℕ)
     → edit (λ i old. getD (c .outputs) i 0) (at + 1 + stepsMost) stepsMost
@@ -55,14 +51,14 @@ case-stored c at l = rw (count-stored, ins, edit-compose byte at 1 stepsMost l, 
     byte i old = placeByte c i
 
     ins : edit (λ i old. getD (c .inputs) i 0) (at + 1) stepsMost (edit byte at 1 l) ≡ edit (λ i. byte (1 + i)) (at + 1) stepsMost (edit byte at 1 l)
-    ins = edit-as _ _ _ _ _ λ i x h. input-byte c i h
+    ins = edit-same _ _ _ _ _ λ i x h. input-byte c i h
 
     past : at + 1 + stepsMost ≡ at + (1 + stepsMost)
     past = omega arith
 
     outs : edit (λ i old. getD (c .outputs) i 0) (at + (1 + stepsMost)) stepsMost (edit byte at (1 + stepsMost) l)
         ≡ edit (λ i. byte (1 + stepsMost + i)) (at + (1 + stepsMost)) stepsMost (edit byte at (1 + stepsMost) l)
-    outs = edit-as _ _ _ _ _ λ i x h. output-byte c i
+    outs = edit-same _ _ _ _ _ λ i x h. output-byte c i
 
 -- so a case stored in three steps is the case placed
 pub placed-from : (c : Case) (p : ℕ) (s s′ s″ : List ℕ)

@@ -25,9 +25,9 @@ use Rattle.session.specs.Layout.{placesMost, sessionSize, talliesSize, h
 use Rattle.session.specs.Form.{Formed, TrueTallies}
 use Rattle.session.specs.Calls.{isSlot, miss, canTake, raised, lowered, placed, started, cleared, loadedSession, loadedTallies}
 use Rattle.session.proofs.Formed.{table-good, formed-table, free-low}
-use Rattle.session.proofs.Stored.{Fits, head-placed, cells-placed}
+use Rattle.session.proofs.Stored.{Fits, no-fits, head-placed, cells-placed}
 use Rattle.session.proofs.Tallied.{raised-in, lowered-in, length-lowered}
-use Rattle.session.proofs.Kept.{OneMore, length-more, count-more, good-fits, no-fits, slot-inside, slot-held, cases-taken, cases-free, cases-put, load-adds, cells-few, started-none, table-short, started-table, cleared-zero}
+use Rattle.session.proofs.Kept.{OneMore, length-more, count-more, good-fits, slot-inside, slot-held, cases-taken, cases-free, cases-put, load-adds, cells-few, started-none, table-short, started-table, cleared-zero}
 
 -- a table has at most as many fault numbers as there are tallies
 numbers-few : (h : Head) → HeadIn h → numbers h ≤ talliesSize

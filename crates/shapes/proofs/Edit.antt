@@ -71,7 +71,7 @@ module _ (f : ℕ → ℕ → ℕ) (at : ℕ) where
           let e = rest p s in rw (getD-set-other, e)
 
   -- two changes that agree on the part are one
-  edit-same : (g : ℕ → ℕ → ℕ) (n : ℕ) (l : List ℕ) → ((i x : ℕ) → i < n → f i x ≡ g i x) → edit f at n l ≡ edit g at n l
+  pub edit-same : (g : ℕ → ℕ → ℕ) (n : ℕ) (l : List ℕ) → ((i x : ℕ) → i < n → f i x ≡ g i x) → edit f at n l ≡ edit g at n l
   unfolding edit
   edit-same g zero l h = refl
   edit-same g (suc n) l h =

@@ -5,7 +5,8 @@ use mathlib.Core.Path.{sym, ap, _∙_}
 use Rattle.shapes.proofs.Refusals.{ruling-here, ruling-past, ruling-end}
 use Rattle.house.specs.Refusal.{checked}
 use Rattle.session.specs.Calls.{addRules}
-use Rattle.session.proofs.Refused.{told-fine, part-fine, part-refused, case-told, rules-formed, full-here, full-not}
+use Rattle.session.proofs.Known.{told-fine, rules-formed}
+use Rattle.session.proofs.Refused.{part-fine, part-refused, case-told, full-here, full-not}
 use Rattle.session.proofs.calls.check_add.Statement.{statement}
 use Rattle.session.proofs.calls.check_add.Tie as tie
 

@@ -7,7 +7,8 @@ use Rattle.shapes.proofs.Refusals.{ruling-here, ruling-past, ruling-end}
 use Rattle.shapes.proofs.Tests.{fails, passes}
 use Rattle.house.specs.Refusal.{checked}
 use Rattle.session.specs.Calls.{amendRules}
-use Rattle.session.proofs.Refused.{told-fine, part-fine, part-refused, case-told, rules-slot}
+use Rattle.session.proofs.Known.{told-fine, rules-slot}
+use Rattle.session.proofs.Refused.{part-fine, part-refused, case-told}
 use Rattle.session.proofs.calls.check_amend.Statement.{statement}
 use Rattle.session.proofs.calls.check_amend.Tie as tie
 

@@ -5,7 +5,8 @@ use mathlib.Core.Path.{sym, _∙_}
 use Rattle.shapes.proofs.Refusals.{ruling-join-fine, ruling-join-refused}
 use Rattle.house.proofs.Records.{rules-refuse, rules-pass}
 use Rattle.session.specs.Calls.{loadRules}
-use Rattle.session.proofs.Refused.{told-fine, told-refused, part-fine, part-refused, load-refused, load-counted, rules-formed}
+use Rattle.session.proofs.Known.{told-fine, told-refused, rules-formed}
+use Rattle.session.proofs.Refused.{part-fine, part-refused, load-refused, load-counted}
 use Rattle.session.proofs.calls.check_load.Statement.{statement}
 use Rattle.session.proofs.calls.check_load.Tie as tie
 

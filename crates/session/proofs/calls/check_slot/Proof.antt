@@ -7,7 +7,8 @@ use Rattle.shapes.proofs.Refusals.{ruling-here, ruling-past, ruling-end}
 use Rattle.house.specs.Refusal.{checked}
 use Rattle.session.specs.Calls.{slotRules}
 use Rattle.session.proofs.Checks.{free-here, held-here}
-use Rattle.session.proofs.Refused.{told-fine, part-fine, part-refused, rules-formed, slot-past, slot-here}
+use Rattle.session.proofs.Known.{told-fine, rules-formed}
+use Rattle.session.proofs.Refused.{part-fine, part-refused, slot-past, slot-here}
 use Rattle.session.proofs.calls.check_slot.Statement.{statement}
 use Rattle.session.proofs.calls.check_slot.Tie as tie
 

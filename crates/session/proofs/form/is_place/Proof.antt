@@ -4,7 +4,8 @@ use borrow.Author.Needs.{needs}
 use mathlib.Core.Path.{sym, _∙_}
 use native.Mathlib.Omega.{arith}
 use Rattle.shapes.proofs.Tests.{fails, passes}
-use Rattle.session.proofs.Checks.{place-read, place-long, place-unclean, place-free, place-held, case-parts}
+use Rattle.session.proofs.Checks.{place-read, place-long, place-unclean, place-free, place-held}
+use Rattle.session.proofs.Known.{good-told}
 use Rattle.session.proofs.form.is_place.Statement.{statement}
 use Rattle.session.proofs.form.is_place.Tie as tie
 
@@ -60,7 +61,7 @@ is-case-requires : tie.Need-is-case-requires
 is-case-requires c κs = search needs
 
 returns-4 : tie.Need-returns-4
-returns-4 c = c .is-case .ensures ∙ case-parts _ _ (c .before .before .before .before .before .before .before .before .before .of .ensures .0) (c .before .before .before .head-of .ensures) ∙ sym (place-held _ _ (omega (arith, place-read (c .before .before .before .before .before .before .before .before .before .before .before .args .session .now) (c .before .before .before .before .before .before .before .before .before .before .before .args .place) (c .before .before .before .before .before .before .before .before .before .of .ensures .0))) (passes (c .before .before .before .before .before .before .before .is-clean .ensures) (c .before .before .before .before .before .before .if2 .left)) (λ e. c .before .before .before .before .before .if3 .left (place-read (c .before .before .before .before .before .before .before .before .before .before .before .args .session .now) (c .before .before .before .before .before .before .before .before .before .before .before .args .place) (c .before .before .before .before .before .before .before .before .before .of .ensures .0) .1 ∙ e)))
+returns-4 c = c .is-case .ensures ∙ good-told _ _ (c .before .before .before .before .before .before .before .before .before .of .ensures .0) (c .before .before .before .head-of .ensures) ∙ sym (place-held _ _ (omega (arith, place-read (c .before .before .before .before .before .before .before .before .before .before .before .args .session .now) (c .before .before .before .before .before .before .before .before .before .before .before .args .place) (c .before .before .before .before .before .before .before .before .before .of .ensures .0))) (passes (c .before .before .before .before .before .before .before .is-clean .ensures) (c .before .before .before .before .before .before .if2 .left)) (λ e. c .before .before .before .before .before .if3 .left (place-read (c .before .before .before .before .before .before .before .before .before .before .before .args .session .now) (c .before .before .before .before .before .before .before .before .before .before .before .args .place) (c .before .before .before .before .before .before .before .before .before .of .ensures .0) .1 ∙ e)))
 
 pub is-place-spec : {M : Type 1} → statement M
 is-place-spec =

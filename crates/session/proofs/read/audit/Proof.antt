@@ -4,7 +4,8 @@ use mathlib.Core.Path.{sym, _∙_}
 use borrow.Author.Needs.{needs}
 use Rattle.session.proofs.Formed.{formed-table}
 use Rattle.session.proofs.Stores.{count-told}
-use Rattle.session.proofs.Listed.{formed-known, table-known, audit-refused, audit-false, audit-true}
+use Rattle.session.proofs.Known.{told-fine, rules-formed, table-known}
+use Rattle.session.proofs.Listed.{audit-refused, audit-false, audit-true}
 use Rattle.session.proofs.read.audit.Statement.{statement}
 use Rattle.session.proofs.read.audit.Tie as tie
 
@@ -21,13 +22,13 @@ enum-told : tie.Need-enum-told
 enum-told c = search needs
 
 first-false-requires : tie.Need-first-false-requires
-first-false-requires c κs = formed-known _ _ (sym (c .before .before .check-form .ensures) ∙ c .enum-told .given .1)
+first-false-requires c κs = rules-formed _ _ (told-fine _ (c .before .before .check-form .ensures) (c .enum-told .given .1))
 
 head-of-requires : tie.Need-head-of-requires
-head-of-requires c κs = formed-known (c .before .before .before .before .before .before .args .session .now) (c .before .before .before .before .before .before .args .tallies .now) (sym (c .before .before .before .check-form .ensures) ∙ c .before .enum-told .given .1) .session-room
+head-of-requires c κs = rules-formed (c .before .before .before .before .before .before .args .session .now) (c .before .before .before .before .before .before .args .tallies .now) (told-fine _ (c .before .before .before .check-form .ensures) (c .before .enum-told .given .1)) .session-room
 
 numbers-requires : tie.Need-numbers-requires
-numbers-requires c κs = let k = formed-known (c .before .before .before .before .before .before .before .args .session .now) (c .before .before .before .before .before .before .before .args .tallies .now) (sym (c .before .before .before .before .check-form .ensures) ∙ c .before .before .enum-told .given .1) in table-known (c .before .before .before .before .before .before .before .args .session .now) (c .head-of .ensures) (k .session-room) (formed-table _ _ k) .head
+numbers-requires c κs = let k = rules-formed (c .before .before .before .before .before .before .before .args .session .now) (c .before .before .before .before .before .before .before .args .tallies .now) (told-fine _ (c .before .before .before .before .check-form .ensures) (c .before .before .enum-told .given .1)) in table-known (c .before .before .before .before .before .before .before .args .session .now) (c .head-of .ensures) (k .session-room) (formed-table _ _ k) .head
 
 returns-2 : tie.Need-returns-2
 returns-2 c = audit-false (c .before .before .before .before .before .before .before .before .before .args .session .now) (c .before .before .before .before .before .before .before .before .before .args .tallies .now) (sym (c .before .before .before .before .before .before .check-form .ensures) ∙ c .before .before .before .before .enum-told .given .1) (c .before .before .before .first-false .ensures) (count-told (c .before .before .before .before .before .before .before .before .before .args .session .now) _ (c .before .before .head-of .ensures) _ (c .before .numbers .ensures .0)) (c .if1 .taken)

@@ -3,8 +3,9 @@
 -- Assumes nothing.
 use Rattle.shapes.proofs.Tests.{fails, passes}
 use Rattle.diagnosis.proofs.Conflicts.{ones-bits}
-use Rattle.session.proofs.Formed.{formed-table}
-use Rattle.session.proofs.Saved.{formed-places, form-found, candidates-refused, candidates-short, candidates-written, candidates-none, candidates-of-ones}
+use Rattle.session.proofs.Formed.{formed-table, formed-places}
+use Rattle.session.proofs.Known.{told-fine, rules-formed}
+use Rattle.session.proofs.Saved.{candidates-refused, candidates-short, candidates-written, candidates-none, candidates-of-ones}
 use borrow.Author.Needs.{needs}
 use native.Mathlib.Omega.{arith}
 use Rattle.session.proofs.read.candidates.Statement.{statement}
@@ -26,7 +27,7 @@ returns-2 : tie.Need-returns-2
 returns-2 c = candidates-short _ _ (c .before .before .before .check-form .ensures) (c .before .enum-told .given .1) _ (c .if1 .taken)
 
 is-some-failing-requires : tie.Need-is-some-failing-requires
-is-some-failing-requires c κs = let f = form-found _ _ (c .before .before .before .check-form .ensures) (c .before .enum-told .given .1) in (f .session-room, (formed-table _ _ f, formed-places _ _ f))
+is-some-failing-requires c κs = let f = rules-formed _ _ (told-fine _ (c .before .before .before .check-form .ensures) (c .before .enum-told .given .1)) in (f .session-room, (formed-table _ _ f, formed-places _ _ f))
 
 fill-requires : tie.Need-fill-requires
 fill-requires c κs = search needs
@@ -41,7 +42,7 @@ fill-requires-2 : tie.Need-fill-requires-2
 fill-requires-2 c κs = search needs
 
 narrow-all-requires : tie.Need-narrow-all-requires
-narrow-all-requires c κs = let f = form-found _ _ (c .before .before .before .before .before .before .before .before .before .before .check-form .ensures) (c .before .before .before .before .before .before .before .before .enum-told .given .1) in (f .session-room, ((formed-table _ _ f, formed-places _ _ f), ones-bits _ _ (omega arith) (c .before .before .before .fill2 .ensures)))
+narrow-all-requires c κs = let f = rules-formed _ _ (told-fine _ (c .before .before .before .before .before .before .before .before .before .before .check-form .ensures) (c .before .before .before .before .before .before .before .before .enum-told .given .1)) in (f .session-room, ((formed-table _ _ f, formed-places _ _ f), ones-bits _ _ (omega arith) (c .before .before .before .fill2 .ensures)))
 
 same-length-2 : tie.Need-same-length-2
 same-length-2 c = search needs

@@ -1,7 +1,8 @@
 -- `session::read::conflict_set` meets its contract: what the place's check refuses, then SHORT, and else the conflict set of the two parts
 -- that are the place's case.
 -- Assumes nothing.
-use Rattle.session.proofs.Saved.{parts-case, slot-inside-room, slot-within, slot-asked, conflict-refused, conflict-short, conflict-written}
+use Rattle.session.proofs.Known.{told-fine, rules-slot, parts-case, slot-room, slot-ends, slot-runs}
+use Rattle.session.proofs.Saved.{conflict-refused, conflict-short, conflict-written}
 use borrow.Author.Needs.{needs}
 use native.Mathlib.Omega.{arith}
 use Rattle.session.proofs.read.conflict_set.Statement.{statement}
@@ -23,16 +24,16 @@ returns-2 : tie.Need-returns-2
 returns-2 c = conflict-short _ _ _ (c .before .before .before .check-slot .ensures) (c .before .enum-told .given .1) _ (c .if1 .taken)
 
 of-requires : tie.Need-of-requires
-of-requires c κs = slot-inside-room _ _ _ (c .before .before .before .check-slot .ensures) (c .before .enum-told .given .1)
+of-requires c κs = slot-room _ _ _ (rules-slot _ _ _ (told-fine _ (c .before .before .before .check-slot .ensures) (c .before .enum-told .given .1)))
 
 add-inputs : tie.Need-add-inputs
-add-inputs c = omega (arith, slot-within _ _ _ (c .before .before .before .before .before .check-slot .ensures) (c .before .before .before .enum-told .given .1) (c .before .of .ensures .0))
+add-inputs c = omega (arith, slot-ends _ _ _ (rules-slot _ _ _ (told-fine _ (c .before .before .before .before .before .check-slot .ensures) (c .before .before .before .enum-told .given .1))) (c .before .of .ensures .0))
 
 add-outputs : tie.Need-add-outputs
-add-outputs c = omega (arith, slot-within _ _ _ (c .before .before .before .before .before .check-slot .ensures) (c .before .before .before .enum-told .given .1) (c .before .of .ensures .0))
+add-outputs c = omega (arith, slot-ends _ _ _ (rules-slot _ _ _ (told-fine _ (c .before .before .before .before .before .check-slot .ensures) (c .before .before .before .enum-told .given .1))) (c .before .of .ensures .0))
 
 head-of-requires : tie.Need-head-of-requires
-head-of-requires c κs = slot-inside-room _ _ _ (c .before .before .before .before .before .check-slot .ensures) (c .before .before .before .enum-told .given .1) .0
+head-of-requires c κs = slot-room _ _ _ (rules-slot _ _ _ (told-fine _ (c .before .before .before .before .before .check-slot .ensures) (c .before .before .before .enum-told .given .1))) .0
 
 sub-conflict : tie.Need-sub-conflict
 sub-conflict c = search needs
@@ -41,10 +42,10 @@ part-conflict-start : tie.Need-part-conflict-start
 part-conflict-start c = search needs
 
 part-conflict-end : tie.Need-part-conflict-end
-part-conflict-end c = omega (arith, slot-within _ _ _ (c .before .before .before .before .before .before .check-slot .ensures) (c .before .before .before .before .enum-told .given .1) (c .before .before .of .ensures .0))
+part-conflict-end c = omega (arith, slot-ends _ _ _ (rules-slot _ _ _ (told-fine _ (c .before .before .before .before .before .before .check-slot .ensures) (c .before .before .before .before .enum-told .given .1))) (c .before .before .of .ensures .0))
 
 add-conflict : tie.Need-add-conflict
-add-conflict c = omega (arith, slot-within _ _ _ (c .before .before .before .before .before .before .before .check-slot .ensures) (c .before .before .before .before .before .enum-told .given .1) (c .before .before .before .of .ensures .0))
+add-conflict c = omega (arith, slot-ends _ _ _ (rules-slot _ _ _ (told-fine _ (c .before .before .before .before .before .before .before .check-slot .ensures) (c .before .before .before .before .before .enum-told .given .1))) (c .before .before .before .of .ensures .0))
 
 sub-conflict-2 : tie.Need-sub-conflict-2
 sub-conflict-2 c = search needs
@@ -53,10 +54,10 @@ part-conflict-start-2 : tie.Need-part-conflict-start-2
 part-conflict-start-2 c = search needs
 
 part-conflict-end-2 : tie.Need-part-conflict-end-2
-part-conflict-end-2 c = omega (arith, slot-within _ _ _ (c .before .before .before .before .before .before .before .check-slot .ensures) (c .before .before .before .before .before .enum-told .given .1) (c .before .before .before .of .ensures .0))
+part-conflict-end-2 c = omega (arith, slot-ends _ _ _ (rules-slot _ _ _ (told-fine _ (c .before .before .before .before .before .before .before .check-slot .ensures) (c .before .before .before .before .before .enum-told .given .1))) (c .before .before .before .of .ensures .0))
 
 add-conflict-2 : tie.Need-add-conflict-2
-add-conflict-2 c = omega (arith, slot-within _ _ _ (c .before .before .before .before .before .before .before .before .check-slot .ensures) (c .before .before .before .before .before .before .enum-told .given .1) (c .before .before .before .before .of .ensures .0))
+add-conflict-2 c = omega (arith, slot-ends _ _ _ (rules-slot _ _ _ (told-fine _ (c .before .before .before .before .before .before .before .before .check-slot .ensures) (c .before .before .before .before .before .before .enum-told .given .1))) (c .before .before .before .before .of .ensures .0))
 
 sub-conflict-3 : tie.Need-sub-conflict-3
 sub-conflict-3 c = search needs
@@ -65,10 +66,10 @@ part-conflict-start-3 : tie.Need-part-conflict-start-3
 part-conflict-start-3 c = search needs
 
 part-conflict-end-3 : tie.Need-part-conflict-end-3
-part-conflict-end-3 c = omega (arith, slot-within _ _ _ (c .before .before .before .before .before .before .before .before .check-slot .ensures) (c .before .before .before .before .before .before .enum-told .given .1) (c .before .before .before .before .of .ensures .0))
+part-conflict-end-3 c = omega (arith, slot-ends _ _ _ (rules-slot _ _ _ (told-fine _ (c .before .before .before .before .before .before .before .before .check-slot .ensures) (c .before .before .before .before .before .before .enum-told .given .1))) (c .before .before .before .before .of .ensures .0))
 
 conflict-requires : tie.Need-conflict-requires
-conflict-requires c κs = let a = slot-asked _ _ _ (c .before .before .before .before .before .before .before .before .before .before .check-slot .ensures) (c .before .before .before .before .before .before .before .before .enum-told .given .1) (c .before .before .before .before .before .before .of .ensures .0) (c .before .before .before .before .head-of .ensures) (parts-case _ _ (c .before .before .before .before .before .before .of .ensures .0)) in (a .0, (a .1, omega arith))
+conflict-requires c κs = let a = slot-runs _ _ _ (rules-slot _ _ _ (told-fine _ (c .before .before .before .before .before .before .before .before .before .before .check-slot .ensures) (c .before .before .before .before .before .before .before .before .enum-told .given .1))) (c .before .before .before .before .head-of .ensures) (parts-case _ _ (c .before .before .before .before .before .before .of .ensures .0)) in (a .0, (a .1, omega arith))
 
 same-length : tie.Need-same-length
 same-length c = search needs

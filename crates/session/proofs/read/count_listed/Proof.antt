@@ -8,7 +8,8 @@ use lib.ListN.{length}
 use Rattle.shapes.specs.Keep.{keepTo}
 use Rattle.session.proofs.Checks.{byte-few}
 use Rattle.session.proofs.Formed.{formed-table}
-use Rattle.session.proofs.Listed.{listedAt, listed-told, list-told, keep-counted, table-known}
+use Rattle.session.proofs.Known.{table-known}
+use Rattle.session.proofs.Listed.{listedAt, listed-told, list-told, keep-counted}
 use Rattle.session.proofs.read.count_listed.Statement.{statement}
 use Rattle.session.proofs.read.count_listed.Tie as tie
 

@@ -8,8 +8,9 @@ use Rattle.shapes.specs.First.{first}
 use Rattle.shapes.proofs.First.{first-turn, first-found, first-ended}
 use Rattle.session.specs.Reads.{falseTally}
 use Rattle.session.proofs.Stores.{count-told}
-use Rattle.session.proofs.Listed.{falseAt, false-begins, false-here, false-past, table-known, places-known}
-use Rattle.session.proofs.Formed.{formed-table}
+use Rattle.session.proofs.Known.{table-known}
+use Rattle.session.proofs.Listed.{falseAt, false-begins, false-here, false-past}
+use Rattle.session.proofs.Formed.{formed-table, formed-places}
 use Rattle.session.proofs.read.first_false.Statement.{statement}
 use Rattle.session.proofs.read.first_false.Tie as tie
 
@@ -29,7 +30,7 @@ loop-holds : tie.Need-loop-holds Inv-loop μ-loop
 loop-holds c = (omega arith, false-begins (c .before .before .before .before .args .session .now) (c .before .before .before .before .args .tallies .now) (count-told (c .before .before .before .before .args .session .now) _ (c .before .head-of .ensures) _ (c .numbers .ensures .0)))
 
 tally-afresh-requires : tie.Need-tally-afresh-requires Inv-loop μ-loop
-tally-afresh-requires c κs = (c .before .before .before .before .before .before .pre .session-room, ((formed-table _ _ (c .before .before .before .before .before .before .pre), places-known _ _ (c .before .before .before .before .before .before .pre)), omega (arith, count-told (c .before .before .before .before .before .before .args .session .now) _ (c .before .before .before .head-of .ensures) _ (c .before .before .numbers .ensures .0))))
+tally-afresh-requires c κs = (c .before .before .before .before .before .before .pre .session-room, ((formed-table _ _ (c .before .before .before .before .before .before .pre), formed-places _ _ (c .before .before .before .before .before .before .pre)), omega (arith, count-told (c .before .before .before .before .before .before .args .session .now) _ (c .before .before .before .head-of .ensures) _ (c .before .before .numbers .ensures .0))))
 
 mul-if1 : tie.Need-mul-if1 Inv-loop μ-loop
 mul-if1 c = search needs

@@ -3,8 +3,9 @@
 use mathlib.Core.Path.{sym, _∙_}
 use borrow.Author.Needs.{needs}
 use native.Mathlib.Omega.{arith}
-use Rattle.session.proofs.Formed.{formed-table}
-use Rattle.session.proofs.Listed.{formed-known, places-known, list-refused, list-short, list-done}
+use Rattle.session.proofs.Formed.{formed-table, formed-places}
+use Rattle.session.proofs.Known.{told-fine, rules-formed}
+use Rattle.session.proofs.Listed.{list-refused, list-short, list-done}
 use Rattle.session.proofs.read.list.Statement.{statement}
 use Rattle.session.proofs.read.list.Tie as tie
 
@@ -21,16 +22,16 @@ enum-told : tie.Need-enum-told
 enum-told c = search needs
 
 count-listed-requires : tie.Need-count-listed-requires
-count-listed-requires c κs = formed-known _ _ (sym (c .before .before .check-form .ensures) ∙ c .enum-told .given .1)
+count-listed-requires c κs = rules-formed _ _ (told-fine _ (c .before .before .check-form .ensures) (c .enum-told .given .1))
 
 returns-2 : tie.Need-returns-2
 returns-2 c = list-short _ _ (c .before .before .before .before .before .before .before .before .args .out .now) (sym (c .before .before .before .before .check-form .ensures) ∙ c .before .before .enum-told .given .1) (c .before .count-listed .ensures .0) (c .if1 .taken)
 
 write-list-requires : tie.Need-write-list-requires
-write-list-requires c κs = (formed-known _ _ (sym (c .before .before .before .before .before .check-form .ensures) ∙ c .before .before .before .enum-told .given .1), omega arith)
+write-list-requires c κs = (rules-formed _ _ (told-fine _ (c .before .before .before .before .before .check-form .ensures) (c .before .before .before .enum-told .given .1)), omega arith)
 
 is-some-failing-requires : tie.Need-is-some-failing-requires
-is-some-failing-requires c κs = let k = formed-known (c .before .before .before .before .before .before .before .before .before .before .before .before .args .session .now) (c .before .before .before .before .before .before .before .before .before .before .before .before .args .tallies .now) (sym (c .before .before .before .before .before .before .before .before .check-form .ensures) ∙ c .before .before .before .before .before .before .enum-told .given .1) in (k .session-room, (formed-table _ _ k, places-known _ _ k))
+is-some-failing-requires c κs = let k = rules-formed (c .before .before .before .before .before .before .before .before .before .before .before .before .args .session .now) (c .before .before .before .before .before .before .before .before .before .before .before .before .args .tallies .now) (told-fine _ (c .before .before .before .before .before .before .before .before .check-form .ensures) (c .before .before .before .before .before .before .enum-told .given .1)) in (k .session-room, (formed-table _ _ k, formed-places _ _ k))
 
 verdict-by-requires : tie.Need-verdict-by-requires
 verdict-by-requires c κs = search needs

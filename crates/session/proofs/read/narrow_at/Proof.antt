@@ -1,7 +1,8 @@
 -- `session::read::narrow_at` meets its contract: a free place leaves the candidates, a held one narrows them by the two parts that are its
 -- case.
 -- Assumes nothing.
-use Rattle.session.proofs.Saved.{place-within, parts-case, held-asked, free-narrows, held-narrows}
+use Rattle.session.proofs.Known.{case-runs, held-read, place-within, parts-case}
+use Rattle.session.proofs.Saved.{free-narrows, held-narrows}
 use borrow.Author.Needs.{needs}
 use native.Mathlib.Omega.{arith}
 use Rattle.session.proofs.read.narrow_at.Statement.{statement}
@@ -14,10 +15,10 @@ returns : tie.Need-returns
 returns c = free-narrows _ _ (c .before .before .before .before .pre .0 .0) (c .before .before .before .before .pre .0 .1) (c .before .before .before .before .pre .1 .0 .1) (c .before .of .ensures .0) _ (c .if1 .taken)
 
 add-inputs : tie.Need-add-inputs
-add-inputs c = omega (arith, place-within _ _ (c .before .before .before .before .before .pre .0 .0) (c .before .before .before .before .before .pre .0 .1) (c .before .before .before .before .before .pre .1 .0 .1) (c .before .before .of .ensures .0))
+add-inputs c = omega (arith, place-within _ _ (c .before .before .of .ensures .0) (c .before .before .before .before .before .pre .1 .0 .1))
 
 add-outputs : tie.Need-add-outputs
-add-outputs c = omega (arith, place-within _ _ (c .before .before .before .before .before .pre .0 .0) (c .before .before .before .before .before .pre .0 .1) (c .before .before .before .before .before .pre .1 .0 .1) (c .before .before .of .ensures .0))
+add-outputs c = omega (arith, place-within _ _ (c .before .before .of .ensures .0) (c .before .before .before .before .before .pre .1 .0 .1))
 
 head-of-requires : tie.Need-head-of-requires
 head-of-requires c κs = search needs
@@ -32,7 +33,7 @@ part-narrow-end : tie.Need-part-narrow-end
 part-narrow-end c = search needs
 
 add-narrow : tie.Need-add-narrow
-add-narrow c = omega (arith, place-within _ _ (c .before .before .before .before .before .before .before .pre .0 .0) (c .before .before .before .before .before .before .before .pre .0 .1) (c .before .before .before .before .before .before .before .pre .1 .0 .1) (c .before .before .before .before .of .ensures .0))
+add-narrow c = omega (arith, place-within _ _ (c .before .before .before .before .of .ensures .0) (c .before .before .before .before .before .before .before .pre .1 .0 .1))
 
 sub-narrow-2 : tie.Need-sub-narrow-2
 sub-narrow-2 c = search needs
@@ -41,10 +42,10 @@ part-narrow-start-2 : tie.Need-part-narrow-start-2
 part-narrow-start-2 c = search needs
 
 part-narrow-end-2 : tie.Need-part-narrow-end-2
-part-narrow-end-2 c = omega (arith, place-within _ _ (c .before .before .before .before .before .before .before .pre .0 .0) (c .before .before .before .before .before .before .before .pre .0 .1) (c .before .before .before .before .before .before .before .pre .1 .0 .1) (c .before .before .before .before .of .ensures .0))
+part-narrow-end-2 c = omega (arith, place-within _ _ (c .before .before .before .before .of .ensures .0) (c .before .before .before .before .before .before .before .pre .1 .0 .1))
 
 add-narrow-2 : tie.Need-add-narrow-2
-add-narrow-2 c = omega (arith, place-within _ _ (c .before .before .before .before .before .before .before .before .pre .0 .0) (c .before .before .before .before .before .before .before .before .pre .0 .1) (c .before .before .before .before .before .before .before .before .pre .1 .0 .1) (c .before .before .before .before .before .of .ensures .0))
+add-narrow-2 c = omega (arith, place-within _ _ (c .before .before .before .before .before .of .ensures .0) (c .before .before .before .before .before .before .before .before .pre .1 .0 .1))
 
 sub-narrow-3 : tie.Need-sub-narrow-3
 sub-narrow-3 c = search needs
@@ -53,10 +54,10 @@ part-narrow-start-3 : tie.Need-part-narrow-start-3
 part-narrow-start-3 c = search needs
 
 part-narrow-end-3 : tie.Need-part-narrow-end-3
-part-narrow-end-3 c = omega (arith, place-within _ _ (c .before .before .before .before .before .before .before .before .pre .0 .0) (c .before .before .before .before .before .before .before .before .pre .0 .1) (c .before .before .before .before .before .before .before .before .pre .1 .0 .1) (c .before .before .before .before .before .of .ensures .0))
+part-narrow-end-3 c = omega (arith, place-within _ _ (c .before .before .before .before .before .of .ensures .0) (c .before .before .before .before .before .before .before .before .pre .1 .0 .1))
 
 narrow-requires : tie.Need-narrow-requires
-narrow-requires c κs = let a = held-asked _ _ (c .before .before .before .before .before .before .before .before .before .before .pre .0 .0) (c .before .before .before .before .before .before .before .before .before .before .pre .0 .1) (c .before .before .before .before .before .before .before .before .before .before .pre .1 .0 .1) (c .before .before .before .before .before .before .before .of .ensures .0) (c .before .before .before .before .head-of .ensures) (parts-case _ _ (c .before .before .before .before .before .before .before .of .ensures .0)) (c .before .before .before .before .before .before .before .before .before .before .pre .1 .0 .0) (c .before .before .before .before .before .before .if1 .left) in (a .0, (a .1, c .before .before .before .before .before .before .before .before .before .before .pre .1 .1))
+narrow-requires c κs = let a = case-runs _ _ (c .before .before .before .before .before .before .before .before .before .before .pre .0 .0) (c .before .before .before .before .before .before .before .before .before .before .pre .1 .0 .0) (c .before .before .before .before .before .before .before .before .before .before .pre .1 .0 .1) (held-read (c .before .before .before .before .before .before .before .before .before .before .args .session .now) _ (c .before .before .before .before .before .before .before .of .ensures .0) (c .before .before .before .before .before .before .if1 .left)) (c .before .before .before .before .head-of .ensures) (parts-case _ _ (c .before .before .before .before .before .before .before .of .ensures .0)) in (a .0, (a .1, c .before .before .before .before .before .before .before .before .before .before .pre .1 .1))
 
 same-length : tie.Need-same-length
 same-length c = search needs

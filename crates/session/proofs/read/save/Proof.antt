@@ -1,7 +1,9 @@
 -- `session::read::save` meets its contract: what the form's check refuses, then SHORT, and else the head and the cases after it are the
 -- record.
 -- Assumes nothing.
-use Rattle.session.proofs.Saved.{record-some, record-room, formed-places, form-found, save-refused, save-short, save-written}
+use Rattle.session.proofs.Formed.{formed-places}
+use Rattle.session.proofs.Known.{told-fine, rules-formed}
+use Rattle.session.proofs.Saved.{record-some, record-room, save-refused, save-short, save-written}
 use borrow.Author.Needs.{needs}
 use native.Mathlib.Omega.{arith}
 use Rattle.session.proofs.read.save.Statement.{statement}
@@ -20,7 +22,7 @@ enum-told : tie.Need-enum-told
 enum-told c = search needs
 
 record-bytes-requires : tie.Need-record-bytes-requires
-record-bytes-requires c κs = let f = form-found _ _ (c .before .before .check-form .ensures) (c .enum-told .given .1) in (f .session-room, formed-places _ _ f)
+record-bytes-requires c κs = let f = rules-formed _ _ (told-fine _ (c .before .before .check-form .ensures) (c .enum-told .given .1)) in (f .session-room, formed-places _ _ f)
 
 returns-2 : tie.Need-returns-2
 returns-2 c = save-short _ _ (c .before .before .before .before .check-form .ensures) (c .before .before .enum-told .given .1) _ _ (c .before .record-bytes .ensures .0) (c .if1 .taken)
@@ -32,7 +34,7 @@ put-file-head-requires : tie.Need-put-file-head-requires
 put-file-head-requires c κs = omega (arith, record-some _ (c .before .before .record-bytes .ensures .0))
 
 write-cases-requires : tie.Need-write-cases-requires
-write-cases-requires c κs = let f = form-found _ _ (c .before .before .before .before .before .before .before .before .before .check-form .ensures) (c .before .before .before .before .before .before .before .enum-told .given .1) in (f .session-room, (formed-places _ _ f, record-room _ _ _ _ (c .before .before .before .before .before .before .record-bytes .ensures .0) (omega arith) (c .before .before .before .put-file-head .ensures)))
+write-cases-requires c κs = let f = rules-formed _ _ (told-fine _ (c .before .before .before .before .before .before .before .before .before .check-form .ensures) (c .before .before .before .before .before .before .before .enum-told .given .1)) in (f .session-room, (formed-places _ _ f, record-room _ _ _ _ (c .before .before .before .before .before .before .record-bytes .ensures .0) (omega arith) (c .before .before .before .put-file-head .ensures)))
 
 same-length : tie.Need-same-length
 same-length c = search needs

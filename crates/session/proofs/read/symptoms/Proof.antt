@@ -3,8 +3,8 @@
 use mathlib.Core.Path.{sym, _∙_}
 use borrow.Author.Needs.{needs}
 use native.Mathlib.Omega.{arith}
-use Rattle.session.proofs.Formed.{formed-table}
-use Rattle.session.proofs.Listed.{slot-known, symptoms-refused, symptoms-shown, place-short, case-known, symptoms-told, table-known}
+use Rattle.session.proofs.Known.{told-fine, rules-slot, parts-case, slot-room, slot-ends, slot-runs}
+use Rattle.session.proofs.Listed.{symptoms-refused, symptoms-shown, symptoms-told}
 use Rattle.session.proofs.read.symptoms.Statement.{statement}
 use Rattle.session.proofs.read.symptoms.Tie as tie
 
@@ -21,16 +21,16 @@ enum-told : tie.Need-enum-told
 enum-told c = search needs
 
 of-requires : tie.Need-of-requires
-of-requires c κs = let k = slot-known (c .before .before .before .before .before .args .session .now) (c .before .before .before .before .before .args .tallies .now) (c .before .before .before .before .before .args .place) (sym (c .before .before .check-slot .ensures) ∙ c .enum-told .given .1) in (k .formed .session-room, k .inside)
+of-requires c κs = slot-room _ _ _ (rules-slot (c .before .before .before .before .before .args .session .now) (c .before .before .before .before .before .args .tallies .now) (c .before .before .before .before .before .args .place) (told-fine _ (c .before .before .check-slot .ensures) (c .enum-told .given .1)))
 
 add-inputs : tie.Need-add-inputs
-add-inputs c = let k = slot-known (c .before .before .before .before .before .before .before .args .session .now) (c .before .before .before .before .before .before .before .args .tallies .now) (c .before .before .before .before .before .before .before .args .place) (sym (c .before .before .before .before .check-slot .ensures) ∙ c .before .before .enum-told .given .1) in omega (arith, place-short (c .before .before .before .before .before .before .before .args .session .now) (c .before .before .before .before .before .before .before .args .place) (c .before .of .ensures .0) (k .good))
+add-inputs c = omega (arith, slot-ends (c .before .before .before .before .before .before .before .args .session .now) (c .before .before .before .before .before .before .before .args .tallies .now) (c .before .before .before .before .before .before .before .args .place) (rules-slot (c .before .before .before .before .before .before .before .args .session .now) (c .before .before .before .before .before .before .before .args .tallies .now) (c .before .before .before .before .before .before .before .args .place) (told-fine _ (c .before .before .before .before .check-slot .ensures) (c .before .before .enum-told .given .1))) (c .before .of .ensures .0))
 
 add-outputs : tie.Need-add-outputs
-add-outputs c = let k = slot-known (c .before .before .before .before .before .before .before .args .session .now) (c .before .before .before .before .before .before .before .args .tallies .now) (c .before .before .before .before .before .before .before .args .place) (sym (c .before .before .before .before .check-slot .ensures) ∙ c .before .before .enum-told .given .1) in omega (arith, place-short (c .before .before .before .before .before .before .before .args .session .now) (c .before .before .before .before .before .before .before .args .place) (c .before .of .ensures .0) (k .good))
+add-outputs c = omega (arith, slot-ends (c .before .before .before .before .before .before .before .args .session .now) (c .before .before .before .before .before .before .before .args .tallies .now) (c .before .before .before .before .before .before .before .args .place) (rules-slot (c .before .before .before .before .before .before .before .args .session .now) (c .before .before .before .before .before .before .before .args .tallies .now) (c .before .before .before .before .before .before .before .args .place) (told-fine _ (c .before .before .before .before .check-slot .ensures) (c .before .before .enum-told .given .1))) (c .before .of .ensures .0))
 
 head-of-requires : tie.Need-head-of-requires
-head-of-requires c κs = let k = slot-known (c .before .before .before .before .before .before .before .args .session .now) (c .before .before .before .before .before .before .before .args .tallies .now) (c .before .before .before .before .before .before .before .args .place) (sym (c .before .before .before .before .check-slot .ensures) ∙ c .before .before .enum-told .given .1) in k .formed .session-room
+head-of-requires c κs = rules-slot (c .before .before .before .before .before .before .before .args .session .now) (c .before .before .before .before .before .before .before .args .tallies .now) (c .before .before .before .before .before .before .before .args .place) (told-fine _ (c .before .before .before .before .check-slot .ensures) (c .before .before .enum-told .given .1)) .0 .session-room
 
 sub-symptoms-of : tie.Need-sub-symptoms-of
 sub-symptoms-of c = search needs
@@ -39,10 +39,10 @@ part-symptoms-of-start : tie.Need-part-symptoms-of-start
 part-symptoms-of-start c = search needs
 
 part-symptoms-of-end : tie.Need-part-symptoms-of-end
-part-symptoms-of-end c = let k = slot-known (c .before .before .before .before .before .before .before .before .args .session .now) (c .before .before .before .before .before .before .before .before .args .tallies .now) (c .before .before .before .before .before .before .before .before .args .place) (sym (c .before .before .before .before .before .check-slot .ensures) ∙ c .before .before .before .enum-told .given .1) in omega (arith, place-short (c .before .before .before .before .before .before .before .before .args .session .now) (c .before .before .before .before .before .before .before .before .args .place) (c .before .before .of .ensures .0) (k .good))
+part-symptoms-of-end c = omega (arith, slot-ends (c .before .before .before .before .before .before .before .before .args .session .now) (c .before .before .before .before .before .before .before .before .args .tallies .now) (c .before .before .before .before .before .before .before .before .args .place) (rules-slot (c .before .before .before .before .before .before .before .before .args .session .now) (c .before .before .before .before .before .before .before .before .args .tallies .now) (c .before .before .before .before .before .before .before .before .args .place) (told-fine _ (c .before .before .before .before .before .check-slot .ensures) (c .before .before .before .enum-told .given .1))) (c .before .before .of .ensures .0))
 
 add-symptoms-of : tie.Need-add-symptoms-of
-add-symptoms-of c = let k = slot-known (c .before .before .before .before .before .before .before .before .before .args .session .now) (c .before .before .before .before .before .before .before .before .before .args .tallies .now) (c .before .before .before .before .before .before .before .before .before .args .place) (sym (c .before .before .before .before .before .before .check-slot .ensures) ∙ c .before .before .before .before .enum-told .given .1) in omega (arith, place-short (c .before .before .before .before .before .before .before .before .before .args .session .now) (c .before .before .before .before .before .before .before .before .before .args .place) (c .before .before .before .of .ensures .0) (k .good))
+add-symptoms-of c = omega (arith, slot-ends (c .before .before .before .before .before .before .before .before .before .args .session .now) (c .before .before .before .before .before .before .before .before .before .args .tallies .now) (c .before .before .before .before .before .before .before .before .before .args .place) (rules-slot (c .before .before .before .before .before .before .before .before .before .args .session .now) (c .before .before .before .before .before .before .before .before .before .args .tallies .now) (c .before .before .before .before .before .before .before .before .before .args .place) (told-fine _ (c .before .before .before .before .before .before .check-slot .ensures) (c .before .before .before .before .enum-told .given .1))) (c .before .before .before .of .ensures .0))
 
 sub-symptoms-of-2 : tie.Need-sub-symptoms-of-2
 sub-symptoms-of-2 c = search needs
@@ -51,10 +51,10 @@ part-symptoms-of-start-2 : tie.Need-part-symptoms-of-start-2
 part-symptoms-of-start-2 c = search needs
 
 part-symptoms-of-end-2 : tie.Need-part-symptoms-of-end-2
-part-symptoms-of-end-2 c = let k = slot-known (c .before .before .before .before .before .before .before .before .before .args .session .now) (c .before .before .before .before .before .before .before .before .before .args .tallies .now) (c .before .before .before .before .before .before .before .before .before .args .place) (sym (c .before .before .before .before .before .before .check-slot .ensures) ∙ c .before .before .before .before .enum-told .given .1) in omega (arith, place-short (c .before .before .before .before .before .before .before .before .before .args .session .now) (c .before .before .before .before .before .before .before .before .before .args .place) (c .before .before .before .of .ensures .0) (k .good))
+part-symptoms-of-end-2 c = omega (arith, slot-ends (c .before .before .before .before .before .before .before .before .before .args .session .now) (c .before .before .before .before .before .before .before .before .before .args .tallies .now) (c .before .before .before .before .before .before .before .before .before .args .place) (rules-slot (c .before .before .before .before .before .before .before .before .before .args .session .now) (c .before .before .before .before .before .before .before .before .before .args .tallies .now) (c .before .before .before .before .before .before .before .before .before .args .place) (told-fine _ (c .before .before .before .before .before .before .check-slot .ensures) (c .before .before .before .before .enum-told .given .1))) (c .before .before .before .of .ensures .0))
 
 add-symptoms-of-2 : tie.Need-add-symptoms-of-2
-add-symptoms-of-2 c = let k = slot-known (c .before .before .before .before .before .before .before .before .before .before .args .session .now) (c .before .before .before .before .before .before .before .before .before .before .args .tallies .now) (c .before .before .before .before .before .before .before .before .before .before .args .place) (sym (c .before .before .before .before .before .before .before .check-slot .ensures) ∙ c .before .before .before .before .before .enum-told .given .1) in omega (arith, place-short (c .before .before .before .before .before .before .before .before .before .before .args .session .now) (c .before .before .before .before .before .before .before .before .before .before .args .place) (c .before .before .before .before .of .ensures .0) (k .good))
+add-symptoms-of-2 c = omega (arith, slot-ends (c .before .before .before .before .before .before .before .before .before .before .args .session .now) (c .before .before .before .before .before .before .before .before .before .before .args .tallies .now) (c .before .before .before .before .before .before .before .before .before .before .args .place) (rules-slot (c .before .before .before .before .before .before .before .before .before .before .args .session .now) (c .before .before .before .before .before .before .before .before .before .before .args .tallies .now) (c .before .before .before .before .before .before .before .before .before .before .args .place) (told-fine _ (c .before .before .before .before .before .before .before .check-slot .ensures) (c .before .before .before .before .before .enum-told .given .1))) (c .before .before .before .before .of .ensures .0))
 
 sub-symptoms-of-3 : tie.Need-sub-symptoms-of-3
 sub-symptoms-of-3 c = search needs
@@ -63,10 +63,10 @@ part-symptoms-of-start-3 : tie.Need-part-symptoms-of-start-3
 part-symptoms-of-start-3 c = search needs
 
 part-symptoms-of-end-3 : tie.Need-part-symptoms-of-end-3
-part-symptoms-of-end-3 c = let k = slot-known (c .before .before .before .before .before .before .before .before .before .before .args .session .now) (c .before .before .before .before .before .before .before .before .before .before .args .tallies .now) (c .before .before .before .before .before .before .before .before .before .before .args .place) (sym (c .before .before .before .before .before .before .before .check-slot .ensures) ∙ c .before .before .before .before .before .enum-told .given .1) in omega (arith, place-short (c .before .before .before .before .before .before .before .before .before .before .args .session .now) (c .before .before .before .before .before .before .before .before .before .before .args .place) (c .before .before .before .before .of .ensures .0) (k .good))
+part-symptoms-of-end-3 c = omega (arith, slot-ends (c .before .before .before .before .before .before .before .before .before .before .args .session .now) (c .before .before .before .before .before .before .before .before .before .before .args .tallies .now) (c .before .before .before .before .before .before .before .before .before .before .args .place) (rules-slot (c .before .before .before .before .before .before .before .before .before .before .args .session .now) (c .before .before .before .before .before .before .before .before .before .before .args .tallies .now) (c .before .before .before .before .before .before .before .before .before .before .args .place) (told-fine _ (c .before .before .before .before .before .before .before .check-slot .ensures) (c .before .before .before .before .before .enum-told .given .1))) (c .before .before .before .before .of .ensures .0))
 
 symptoms-of-requires : tie.Need-symptoms-of-requires
-symptoms-of-requires c κs = let k = slot-known (c .before .before .before .before .before .before .before .before .before .before .before .args .session .now) (c .before .before .before .before .before .before .before .before .before .before .before .args .tallies .now) (c .before .before .before .before .before .before .before .before .before .before .before .args .place) (sym (c .before .before .before .before .before .before .before .before .check-slot .ensures) ∙ c .before .before .before .before .before .before .enum-told .given .1) in (table-known (c .before .before .before .before .before .before .before .before .before .before .before .args .session .now) (c .before .before .before .head-of .ensures) (k .formed .session-room) (formed-table _ _ (k .formed)), case-known (c .before .before .before .before .before .before .before .before .before .before .before .args .session .now) (c .before .before .before .before .before .before .before .before .before .before .before .args .place) (c .before .before .before .before .before .of .ensures .0) (c .before .before .before .head-of .ensures) (k .good) (k .held))
+symptoms-of-requires c κs = slot-runs (c .before .before .before .before .before .before .before .before .before .before .before .args .session .now) (c .before .before .before .before .before .before .before .before .before .before .before .args .tallies .now) (c .before .before .before .before .before .before .before .before .before .before .before .args .place) (rules-slot (c .before .before .before .before .before .before .before .before .before .before .before .args .session .now) (c .before .before .before .before .before .before .before .before .before .before .before .args .tallies .now) (c .before .before .before .before .before .before .before .before .before .before .before .args .place) (told-fine _ (c .before .before .before .before .before .before .before .before .check-slot .ensures) (c .before .before .before .before .before .before .enum-told .given .1))) (c .before .before .before .head-of .ensures) (parts-case (c .before .before .before .before .before .before .before .before .before .before .before .args .session .now) (c .before .before .before .before .before .before .before .before .before .before .before .args .place) (c .before .before .before .before .before .of .ensures .0))
 
 returns-2 : tie.Need-returns-2
 returns-2 c = symptoms-shown (c .before .before .before .before .before .before .before .before .before .before .before .before .args .session .now) (c .before .before .before .before .before .before .before .before .before .before .before .before .args .tallies .now) (c .before .before .before .before .before .before .before .before .before .before .before .before .args .place) (sym (c .before .before .before .before .before .before .before .before .before .check-slot .ensures) ∙ c .before .before .before .before .before .before .before .enum-told .given .1) (symptoms-told (c .before .before .before .before .before .before .before .before .before .before .before .before .args .session .now) (c .before .before .before .before .before .before .before .before .before .before .before .before .args .place) (c .before .before .before .before .before .before .of .ensures .0) (c .before .before .before .before .head-of .ensures) (c .symptoms-of .ensures))

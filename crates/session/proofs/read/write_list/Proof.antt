@@ -9,7 +9,8 @@ use lib.ListN.{length}
 use Rattle.shapes.specs.Edit.{filled}
 use Rattle.shapes.proofs.Edit.{length-filled}
 use Rattle.session.proofs.Formed.{formed-table}
-use Rattle.session.proofs.Listed.{listedAt, listed-told, list-told, keep-few, WrittenTo, written-none, written-room, written-more, written-past, table-known}
+use Rattle.session.proofs.Known.{table-known}
+use Rattle.session.proofs.Listed.{listedAt, listed-told, list-told, keep-few, WrittenTo, written-none, written-room, written-more, written-past}
 use Rattle.session.proofs.read.write_list.Statement.{statement}
 use Rattle.session.proofs.read.write_list.Tie as tie
 

@@ -11,5 +11,6 @@ pub mod Changed
 pub mod Saved
 pub mod Listed
 pub mod Histories
+pub mod Exactly
 pub mod Answers
 pub mod Tied

@@ -171,7 +171,7 @@ module _ (s t : List ℕ) (p : ℕ) (c : Case) (x : Checked) (e : x ≡ checked 
 
   module _ (d : x ≡ Fine) where
     -- one that is not is of a case that can be run, for one that is held and can be counted out of the tallies,
-    amend-known : (Formed s t × ((isSlot s p ≡ true) × (canTake s t p ≡ true))) × (goodCase (headOf s) (c .inputs) (c .outputs) ≡ true)
+    pub amend-known : (Formed s t × ((isSlot s p ≡ true) × (canTake s t p ≡ true))) × (goodCase (headOf s) (c .inputs) (c .outputs) ≡ true)
     unfolding amendRules
     amend-known =
         let a = ruling-joined (slotRules s t p) _ (told-fine _ e d) in

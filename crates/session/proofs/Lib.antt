@@ -11,6 +11,7 @@ pub mod Changed
 pub mod Saved
 pub mod Listed
 pub mod Histories
+pub mod AllKept
 pub mod Exactly
 pub mod Answers
 pub mod Tied

@@ -1,4 +1,4 @@
--- `session::calls::hold_all` meets its contract. The invariant: the cases left make of this session what all of them make of the first.
+-- `session::calls::hold_all` meets its contract. The invariant: the cases left make of the memory here what all of them make of the memory at entry.
 -- Assumes nothing.
 use Prim.Native.Nat.{_-_}
 use mathlib.Core.Path.{refl}

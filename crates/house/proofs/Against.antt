@@ -1,13 +1,15 @@
 -- The cases of a record, judged against a head one after the other: what is left to judge says what all of them say. Assumes nothing.
 use Prim.Native.Nat.{ℕ, suc, _+_, _-_, _*_, _≤_, _<_}
 use mathlib.Core.Path.{_≡_, refl, sym, ap, _∙_}
+use mathlib.Core.Bool.{true}
 use mathlib.Core.List.{List, [], _∷_}
+use borrow.Author.Tests.{not-false}
 use native.Mathlib.Nat.{sub-zero, add-sub-cancel-left}
 use native.Mathlib.Omega.{arith}
 use lib.ListN.{length, getD, take, drop}
 use Rattle.shapes.specs.Refusals.{ruling, fine, refused}
-use Rattle.shapes.proofs.Refusals.{ruling-end, ruling-join-refused, ruling-join-fine}
-use Rattle.machine.specs.Case.{Case}
+use Rattle.shapes.proofs.Refusals.{ruling-end, ruling-join-refused, ruling-join-fine, fine-when}
+use Rattle.machine.specs.Case.{Case, goodCase}
 use Rattle.machine.specs.declared.head.Head.{Head}
 use Rattle.house.specs.File.{restAt}
 use Rattle.house.specs.Cases.{stepsAt, caseEnd, caseAt, countIn, countOf, recordRules, casesFrom, casesIn, caseRules, casesRules}
@@ -28,6 +30,17 @@ case-parts file at x y i o e ex ey ei eo ee =
     let m : e - o ≡ getD file at 0 = omega arith in
     rw (n, m, eo, ei, ex)
 
+-- where some cases are left to judge, they begin with the one at the place
+pub next-case : (file : List ℕ) (count i at : ℕ) → i < count
+    → casesFrom file (count - i) at ≡ caseAt file at ∷ casesFrom file (count - (i + 1)) (caseEnd file at)
+unfolding casesFrom
+next-case file count i at l = let e : count - i ≡ suc (count - (i + 1)) = omega arith in rw e
+
+-- a case that is not refused can be run against the head
+pub case-known : (h : Head) (c : Case) → ruling (caseRules h c) ≡ fine → goodCase h (c .inputs) (c .outputs) ≡ true
+unfolding caseRules
+case-known h c e = not-false _ (fine-when (caseRules h c) .0 e .0)
+
 -- where judging stands: before case i, at its place
 pub record Judging (h : Head) (file : List ℕ) (count i at : ℕ) : Type 0 where
   pub inside : i ≤ count
@@ -40,11 +53,6 @@ module _ (h : Head) (file : List ℕ) (count : ℕ) (known : count ≡ countOf (
   unfolding placeOf casesIn
   judging-begins = record { inside = omega arith; place = refl; same = rw (sub-zero, known) }
 
-  -- what is left begins with the case at the place
-  next-case : (i at : ℕ) → i < count → casesFrom file (count - i) at ≡ caseAt file at ∷ casesFrom file (count - (i + 1)) (caseEnd file at)
-  unfolding casesFrom
-  next-case i at l = let e : count - i ≡ suc (count - (i + 1)) = omega arith in rw e
-
   -- a case that is refused refuses all
   pub judging-refused : (i at : ℕ) (r : Refusal) (c : Case) (x : Checked) → Judging h file count i at → i < count
       → x ≡ checked (ruling (caseRules h c)) → x ≡ Refused r → c ≡ caseAt file at → checked (ruling (casesRules h (casesIn file))) ≡ Refused r
@@ -52,7 +60,7 @@ module _ (h : Head) (file : List ℕ) (count : ℕ) (known : count ≡ countOf (
   judging-refused i at r c x j l ex er ec =
       let e : ruling (caseRules h (caseAt file at)) ≡ refused r = rw ec at (checked-refused (ruling (caseRules h c)) (sym ex ∙ er)) in
       let all : ruling (casesRules h (casesIn file)) ≡ refused r =
-      sym (j .same) ∙ rw (next-case i at l) (ruling-join-refused (caseRules h (caseAt file at)) _ r e) in
+      sym (j .same) ∙ rw (next-case file count i at l) (ruling-join-refused (caseRules h (caseAt file at)) _ r e) in
       rw all
 
   -- one that is not leaves it to the next
@@ -69,7 +77,7 @@ module _ (h : Head) (file : List ℕ) (count : ℕ) (known : count ≡ countOf (
         same =
             rw en
             (sym (ruling-join-fine (caseRules h (caseAt file at)) (casesRules h (casesFrom file (count - (i + 1)) (caseEnd file at))) e)
-            ∙ (rw (next-case i at l) at (j .same)));
+            ∙ (rw (next-case file count i at l) at (j .same)));
       })
 
   -- and where none is left nothing was wrong

@@ -32,6 +32,7 @@ use Rattle.house.specs.declared.cases.RecordFile.{RecordFile}
 use Rattle.house.specs.declared.cases.RecordFile as RecordFile-type
 use Rattle.house.proofs.Records.{cases-counted}
 use Rattle.house.proofs.Places.{place-next}
+use Rattle.house.proofs.Against.{case-known}
 use Rattle.diagnosis.specs.Diagnosis.{allGood}
 use Rattle.session.specs.Layout.{placesMost, sessionSize, talliesSize, headOf, cellsOf, caseOf, cases, freePlace, noCase}
 use Rattle.session.specs.Form.{tallyMost, Formed}
@@ -42,12 +43,7 @@ use Rattle.session.proofs.Tallied.{lowered-in, length-lowered, length-r
 use Rattle.session.proofs.Kept.{good-fits, slot-inside, add-count, add-keeps, loaded-same, free-left, cells-few}
 use Rattle.session.proofs.Known.{told-fine, told-refused, rules-formed, rules-slot, slot-room}
 
--- a case that no rule refuses can be run
-case-known : (h : Head) (c : Case) → ruling (caseRules h c) ≡ fine → goodCase h (c .inputs) (c .outputs) ≡ true
-unfolding caseRules
-case-known h c e = not-false _ (fine-when (caseRules h c) .0 e .0)
-
--- and so can cases that no rule refuses
+-- cases that no rule refuses can be run
 cases-known : (h : Head) (cs : List Case) → ruling (casesRules h cs) ≡ fine → allGood h cs ≡ true
 unfolding casesRules allGood every
 cases-known h [] e = refl

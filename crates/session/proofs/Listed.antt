@@ -41,7 +41,7 @@ use Rattle.session.specs.declared.layout.Place.{Place}
 use Rattle.session.specs.declared.read.Listing.the-variants as listings
 use Rattle.session.specs.declared.read.Audited.the-variants as audits
 use Rattle.session.specs.declared.read.Shown.the-variants as shows
-use Rattle.session.proofs.Stores.{bit-told}
+use Rattle.shapes.proofs.Keep.{bit-told}
 use Rattle.session.proofs.Known.{caseRead, parts-case, parts-read}
 
 -- a number more that is kept counts as one, else as none

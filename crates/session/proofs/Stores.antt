@@ -9,7 +9,6 @@ use native.Mathlib.Omega.{arith}
 use borrow.Author.Tests.{ne-eqb, lt-ltb, le-ltb}
 use lib.Dec.{leb}
 use lib.ListN.{length, getD, set}
-use mir.Val.{boolByte}
 use Rattle.shapes.specs.Edit.{edit}
 use Rattle.shapes.specs.Keep.{bit}
 use Rattle.shapes.proofs.Edit.{edit-same, edit-compose, edit-out-above}
@@ -66,14 +65,6 @@ pub placed-from : (c : Case) (p : ℕ) (s s′ s″ : List ℕ)
     → s″ ≡ edit (λ i old. getD (c .outputs) i 0) (placeAt p + 1 + stepsMost) stepsMost s′ → s″ ≡ placed s p c
 unfolding placed
 placed-from c p s s′ s″ e d = rw (d, e) (case-stored c (placeAt p) s)
-
--- a truth value stored as a number
-pub bit-told : {r b : Bool} → r ≡ b → (boolByte r ≡ bit b) × (boolByte r ≤ 1)
-bit-told {r} {b} e = rw e (go b)
-  where
-    go : (b : Bool) → (boolByte b ≡ bit b) × (boolByte b ≤ 1)
-    go true = (refl, omega arith)
-    go false = (refl, omega arith)
 
 module _ (s : List ℕ) (h : Head) (same : h ≡ headOf s) where
   -- the count that the head read gives is that of the numbers in use

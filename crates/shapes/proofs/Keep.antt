@@ -1,4 +1,5 @@
--- What is kept is exactly what the test holds at, once and rising; and what a count, `every` and `some` say of each other.
+-- What is kept is exactly what the test holds at, once and rising; what a count, `every` and `some` say of each other; and a truth value as a
+-- number.
 -- Each by induction. Assumes nothing.
 use Prim.Native.Nat.{ℕ, zero, suc, _+_, _≤_, _<_}
 use mathlib.Core.Path.{_≡_, refl, sym, ap, _∙_}
@@ -11,6 +12,7 @@ use native.Mathlib.Omega.{arith}
 use lib.Dec.{eqb, ltb}
 use lib.ListN.{length, getD, length-append, List·getD-append}
 use lib.Seq.{getD-append-seam}
+use mir.Val.{boolByte}
 use borrow.Author.Tests.{eqb-true, eqb-false, eq-eqb, ne-eqb, lt-ltb, le-ltb, ltb-true, ltb-false}
 use Rattle.shapes.proofs.Tests.{and-true}
 use Rattle.shapes.specs.Keep.{keepIf, keepTo, has, bit, count, every, some, Rising}
@@ -110,6 +112,14 @@ kept-rising p (suc n) i j h k = go (p n) (kept-rising p n i j h) (kept-below p n
             let m : i < length (keepTo p n) = omega arith in
             rw (List·getD-append (keepTo p n) (n ∷ []) 0 i m, List·getD-append (keepTo p n) (n ∷ []) 0 j l) (rest l)
     go false rest low k = rw append-nil (rest (rw append-nil at k))
+
+-- a truth value, cast to a number by the code, is 1 for true and 0 for false
+pub bit-told : {r b : Bool} → r ≡ b → (boolByte r ≡ bit b) × (boolByte r ≤ 1)
+bit-told {r} {b} e = rw e (go b)
+  where
+    go : (b : Bool) → (boolByte b ≡ bit b) × (boolByte b ≤ 1)
+    go true = (refl, omega arith)
+    go false = (refl, omega arith)
 
 module _ {A : Type 0} (p : A → Bool) where
   -- one more counts by whether the test holds for it, wherever it stands

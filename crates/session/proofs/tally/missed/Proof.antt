@@ -1,7 +1,7 @@
 -- `session::tally::missed` meets its contract: the answer as a number.
 -- Assumes nothing.
 use borrow.Author.Needs.{needs}
-use Rattle.session.proofs.Stores.{bit-told}
+use Rattle.shapes.proofs.Keep.{bit-told}
 use Rattle.session.proofs.tally.missed.Statement.{statement}
 use Rattle.session.proofs.tally.missed.Tie as tie
 

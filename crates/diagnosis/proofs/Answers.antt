@@ -6,6 +6,8 @@ use Rattle.diagnosis.proofs.is_failing.Kinds as is-failing-kinds
 use Rattle.diagnosis.proofs.is_failing.Reads as is-failing-reads
 use Rattle.diagnosis.proofs.is_missed.Kinds as is-missed-kinds
 use Rattle.diagnosis.proofs.is_missed.Reads as is-missed-reads
+use Rattle.diagnosis.proofs.is_missed_walked.Kinds as is-missed-walked-kinds
+use Rattle.diagnosis.proofs.is_missed_walked.Reads as is-missed-walked-reads
 use Rattle.diagnosis.proofs.fill.Kinds as fill-kinds
 use Rattle.diagnosis.proofs.fill.Reads as fill-reads
 use Rattle.diagnosis.proofs.narrow.Kinds as narrow-kinds
@@ -18,6 +20,9 @@ is-failing-one κs a z z′ ws ws′ p q = (p ∙ sym q, refl)
 
 is-missed-one : OneAnswer is-missed-kinds.ps is-missed-kinds.r is-missed-reads.Post
 is-missed-one κs a z z′ ws ws′ p q = (p ∙ sym q, refl)
+
+is-missed-walked-one : OneAnswer is-missed-walked-kinds.ps is-missed-walked-kinds.r is-missed-walked-reads.Post
+is-missed-walked-one κs a z z′ ws ws′ p q = (p ∙ sym q, refl)
 
 fill-one : OneAnswer fill-kinds.ps fill-kinds.r fill-reads.Post
 fill-one κs a z z′ ws ws′ p q = (refl, λ i. ((p ∙ sym q) i, ws .1))

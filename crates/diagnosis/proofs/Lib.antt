@@ -1,4 +1,5 @@
 pub mod Conflicts
+pub mod Walks
 pub mod Lists
 pub mod Candidates
 pub mod Answers

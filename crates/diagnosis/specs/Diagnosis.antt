@@ -1,5 +1,6 @@
 -- What held cases say: over a head, the cells of its table and any list of cases (document 01, "Symptoms, conflict sets, verdict", "Fault numbers").
 use Prim.Native.Nat.{ℕ, _+_, _≤_, _<_}
+use mathlib.Core.Path.{_≡_}
 use mathlib.Core.List.{List, [], _∷_}
 use mathlib.Core.Bool.{Bool, true, false, cond, not, _&&_, _||_}
 use lib.Dec.{eqb}
@@ -78,6 +79,12 @@ swept v = bit (eqb v 3)
 pub record Bits (out : List ℕ) : Type 0 where
   pub room : cellsMost ≤ length out
   pub each : (cell : ℕ) → cell < cellsMost → getD out cell 0 ≤ 1
+
+-- what is known of a case that the specified machine has walked: whether it fails, and that a 0 stands only at cells never executed
+pub record Walked (M : Machine) (c : Case) (failing : Bool) (marks : List ℕ) : Type 0 where
+  pub same : failing ≡ fails M c
+  pub room : cellsMost ≤ length marks
+  pub idle : (cell : ℕ) → cell < cellsMost → getD marks cell 0 ≡ 0 → has cell (executed M (c .inputs)) ≡ false
 
 -- every held case is one that can be run against the head
 unfoldable pub allGood : Head → List Case → Bool

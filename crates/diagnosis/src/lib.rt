@@ -1,5 +1,6 @@
 // Diagnosis (document 01, "Symptoms, conflict sets, verdict"): what one case says against a table and against a fault number.
 // It rests on the machine's definition of a run and its laws, and on no byte of a cell.
+use machine::fault::Fault;
 use machine::head::Head;
 use machine::replay::is_expected;
 use machine::replay::is_reproduced;
@@ -14,7 +15,7 @@ ghost use Rattle.machine.specs.Head.{numbers};
 ghost use Rattle.machine.specs.Cell.{TableIn};
 ghost use Rattle.machine.specs.Machine.{specified};
 ghost use Rattle.machine.specs.Case.{CaseIn};
-ghost use Rattle.diagnosis.specs.Diagnosis.{fails, misses, conflictBytes, narrowed, swept, Bits};
+ghost use Rattle.diagnosis.specs.Diagnosis.{fails, misses, conflictBytes, narrowed, swept, Bits, Walked};
 
 // What the held cases say together.
 pub enum Verdict {
@@ -43,6 +44,29 @@ pub fn is_missed(head: Head, cells: &[u8], number: usize, inputs: &[u8], outputs
     ensures { λ r. ⌜ r ≡ misses head (now (cells .entry)) number (record { inputs = now (inputs .entry); outputs = now (outputs .entry) }) ⌝ }
 {
     !is_reproduced(head, cells, number, inputs, outputs)
+}
+
+// The same of a walked case: a number on a cell that the specified path never executes answers as the specified machine does.
+pub fn is_missed_walked(
+    head: Head,
+    cells: &[u8],
+    number: usize,
+    inputs: &[u8],
+    outputs: &[u8],
+    failing: bool,
+    marks: &[u8],
+) -> bool
+    requires { ⌜ TableIn head (now cells) ⌝ }
+    requires { ⌜ number < numbers head ⌝ }
+    requires { ⌜ CaseIn head (now inputs) (now outputs) ⌝ }
+    requires { ⌜ Walked (specified head (now cells)) (record { inputs = now inputs; outputs = now outputs }) failing (now marks) ⌝ }
+    ensures { λ r. ⌜ r ≡ misses head (now (cells .entry)) number (record { inputs = now (inputs .entry); outputs = now (outputs .entry) }) ⌝ }
+{
+    let cell = Fault::numbered(head, number).cell;
+    if marks[cell] == 0 {
+        return failing;
+    }
+    is_missed(head, cells, number, inputs, outputs)
 }
 
 // Writes one value at all 256 cells.

@@ -40,11 +40,6 @@ abbrev pub checked : Ruling Refusal → Checked-type.Checked
 checked fine = Checked-type.the-variants.Fine
 checked (refused r) = Checked-type.the-variants.Refused r
 
--- a call that answers a number answers it where its rules say nothing
-abbrev pub answered : Ruling Refusal → ℕ → Answer-type.Answer
-answered fine n = Answer-type.the-variants.Done n
-answered (refused r) n = Answer-type.the-variants.Refused r
-
 -- what a call answers, with what it leaves in the one buffer lent to it
 pub data Written : Type 0 where
   wrote : Answer-type.Answer → List ℕ → Written

@@ -11,6 +11,8 @@ use machine::head::Head;
 use machine::head::MadeHead;
 use session::calls::load;
 use session::calls::start;
+use session::layout::SESSION;
+use session::layout::TALLIES;
 use session::read::Listing;
 use session::read::list;
 use shapes::byte;
@@ -18,6 +20,7 @@ ghost use mathlib.Core.Path.{_≡_};
 ghost use Prim.Native.Nat.{_+_, _*_, _≤_, min};
 ghost use lib.ListN.{length, getD};
 ghost use Rattle.machine.specs.Head.{HeadIn};
+ghost use Rattle.session.specs.Layout.{sessionSize, talliesSize};
 
 // The most bytes that an input has.
 const MOST: usize = 16384;
@@ -30,17 +33,17 @@ fn input_room() -> [u8; 16385]
 }
 
 // Room for a session.
-fn session_room() -> [u8; 8771]
-    ensures { λ r. ⌜ 8771 ≡ length r ⌝ }
+fn session_room() -> [u8; SESSION]
+    ensures { λ r. ⌜ sessionSize ≡ length r ⌝ }
 {
-    [0; 8771]
+    [0; SESSION]
 }
 
 // Room for the tallies, and for the longest list.
-fn numbers_room() -> [u16; 8192]
-    ensures { λ r. ⌜ 8192 ≡ length r ⌝ }
+fn numbers_room() -> [u16; TALLIES]
+    ensures { λ r. ⌜ talliesSize ≡ length r ⌝ }
 {
-    [0; 8192]
+    [0; TALLIES]
 }
 
 fn least(a: usize, b: usize) -> usize

@@ -30,10 +30,6 @@ use Rattle.machine.proofs.fault.is_fault.Kinds as is-fault-kinds
 use Rattle.machine.proofs.fault.is_fault.Reads as is-fault-reads
 use Rattle.machine.proofs.case.is_case.Kinds as is-case-kinds
 use Rattle.machine.proofs.case.is_case.Reads as is-case-reads
-use Rattle.machine.proofs.replay.Replay.start.Kinds as replay-start-kinds
-use Rattle.machine.proofs.replay.Replay.start.Reads as replay-start-reads
-use Rattle.machine.proofs.replay.Replay.step.Kinds as replay-step-kinds
-use Rattle.machine.proofs.replay.Replay.step.Reads as replay-step-reads
 use Rattle.machine.proofs.replay.symptoms_of.Kinds as symptoms-of-kinds
 use Rattle.machine.proofs.replay.symptoms_of.Reads as symptoms-of-reads
 use Rattle.machine.proofs.replay.is_reproduced.Kinds as is-reproduced-kinds
@@ -84,12 +80,6 @@ is-fault-one κs a z z′ ws ws′ p q = (p ∙ sym q, refl)
 
 is-case-one : OneAnswer is-case-kinds.ps is-case-kinds.r is-case-reads.Post
 is-case-one κs a z z′ ws ws′ p q = (p ∙ sym q, refl)
-
-replay-start-one : OneAnswer replay-start-kinds.ps replay-start-kinds.r replay-start-reads.Post
-replay-start-one κs a z z′ ws ws′ p q = (p ∙ sym q, refl)
-
-replay-step-one : OneAnswer replay-step-kinds.ps replay-step-kinds.r replay-step-reads.Post
-replay-step-one κs a z z′ ws ws′ p q = (p ∙ sym q, refl)
 
 symptoms-of-one : OneAnswer symptoms-of-kinds.ps symptoms-of-kinds.r symptoms-of-reads.Post
 symptoms-of-one κs a z z′ ws ws′ p q = (p ∙ sym q, refl)

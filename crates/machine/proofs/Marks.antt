@@ -80,6 +80,14 @@ marked-at (d ∷ cs) out c l =
     go false e true = rw (getD-set-other out d c _ 0 (eqb-false c d e))
     go false e false = rw (getD-set-other out d c _ 0 (eqb-false c d e))
 
+-- so a cell at which a 0 stands was not executed
+pub unmarked : (cs out : List ℕ) (c : ℕ) → c < length out → getD (marked cs out) c 0 ≡ 0 → has c cs ≡ false
+unmarked cs out c l e = go (has c cs) (sym (marked-at cs out c l) ∙ e)
+  where
+    go : (b : Bool) → cond b (getD out c 0 % 2 + 2) (getD out c 0) ≡ 0 → b ≡ false
+    go true e = absurd (omega arith)
+    go false e = refl
+
 -- every cell on the path of a machine that stays among n states is one of theirs
 path-in : (M : Machine) (n : ℕ) → ((s i : ℕ) → s < n → i < M .inputs → M .does (cellAt M s i) .next < n) → (s : ℕ) → s < n → (is : List ℕ)
     → ((t : ℕ) → t < length is → getD is t 0 < M .inputs) → (c : ℕ) → has c (path M s is) ≡ true → c < n * M .inputs

@@ -98,6 +98,12 @@ pub expected-never : (h : Head) (cells is : List ℕ) (f : ℕ) → has (cellOf 
 unfolding expected executed changed changeOf cellOf
 expected-never h cells is f e = run-never (specified h cells) (changeOf (specified h cells) (faultOf h f)) _ is e
 
+-- so such a number's machine reproduces a case exactly if the specified machine does
+pub reproduces-never : (h : Head) (cells is ys : List ℕ) (f : ℕ) → has (cellOf h f) (executed (specified h cells) is) ≡ false
+    → reproduces (changed h cells f) is ys ≡ reproduces (specified h cells) is ys
+unfolding reproduces
+reproduces-never h cells is ys f e = rw (expected-never h cells is f e)
+
 -- outputs match exactly if they differ at no step
 matching-differing : (gs ys : List ℕ) → matching gs ys ≡ eqb (differing gs ys) 0
 unfolding matching differing

@@ -1,5 +1,5 @@
 -- Fault numbers and the machine that a number makes (document 01, "Fault numbers").
-use Prim.Native.Nat.{ℕ, _-_, _/_, _%_, _<_}
+use Prim.Native.Nat.{ℕ, _+_, _-_, _*_, _/_, _%_, _<_}
 use mathlib.Core.List.{List}
 use mathlib.Core.Bool.{Bool, cond, not, _&&_}
 use lib.Dec.{eqb, ltb}
@@ -21,6 +21,14 @@ faultOf h f =
     cond (ltb (f % width h) (h .outputs))
     (record { cell = f / width h; kind = Output; value = f % width h })
     (record { cell = f / width h; kind = Transfer; value = f % width h - h .outputs })
+
+-- the number of a fault: c × (n + m) + j, where j is an output's value, and m more than a transfer's
+abbrev pub placeOf : Head → Kind → ℕ → ℕ
+placeOf h Output v = v
+placeOf h Transfer v = h .outputs + v
+
+unfoldable pub numberOf : Head → Fault → ℕ
+numberOf h x = x .cell * width h + placeOf h (x .kind) (x .value)
 
 -- the cell of a number
 unfoldable pub cellOf : Head → ℕ → ℕ

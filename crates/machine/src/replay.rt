@@ -48,7 +48,7 @@ impl Replay {
     pub const STEPS: usize = 64;
 
     // Before the first step.
-    pub fn start() -> Replay
+    fn start() -> Replay
         ensures { λ r. ⌜ r ≡ fresh ⌝ }
     {
         Replay {
@@ -60,7 +60,7 @@ impl Replay {
     }
 
     // The replay after one step more: the machine moved, and an output was observed.
-    pub fn step(self, to: Move, observed: usize) -> Replay
+    fn step(self, to: Move, observed: usize) -> Replay
         requires { ⌜ (self .step < stepsMost) × (self .symptoms ≤ self .step) ⌝ }
         ensures { λ r. ⌜ r ≡ stepped self to observed ⌝ }
     {

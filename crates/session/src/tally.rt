@@ -2,8 +2,10 @@
 use crate::layout::CELLS;
 use crate::layout::PLACES;
 use crate::layout::head_of;
-use diagnosis::is_missed;
+use diagnosis::is_failing;
+use diagnosis::is_missed_walked;
 use machine::head::Head;
+use machine::replay::mark_executed;
 ghost use mathlib.Core.Path.{_≡_};
 ghost use Prim.Native.Nat.{ℕ, _-_, _≤_, _<_};
 ghost use lib.ListN.{length, getD};
@@ -11,21 +13,43 @@ ghost use lib.Dec.{leb};
 ghost use mathlib.Core.Bool.{_&&_};
 ghost use Rattle.shapes.specs.First.{allTo};
 ghost use Rattle.shapes.specs.Keep.{bit};
+ghost use Rattle.machine.specs.Limits.{cellsMost};
 ghost use Rattle.machine.specs.Head.{numbers};
 ghost use Rattle.machine.specs.Cell.{TableIn};
+ghost use Rattle.machine.specs.Machine.{specified};
 ghost use Rattle.machine.specs.Case.{CaseIn};
-ghost use Rattle.diagnosis.specs.Diagnosis.{misses};
+ghost use Rattle.diagnosis.specs.Diagnosis.{misses, Walked};
 ghost use Rattle.session.specs.Layout.{sessionSize, talliesSize, headOf, cellsOf};
 ghost use Rattle.session.specs.Calls.{miss, raised, lowered};
 
-// 1 where a number's machine misses a case, else 0.
-fn missed(head: Head, cells: &[u8], number: usize, inputs: &[u8], outputs: &[u8]) -> u16
+// Walks a case by the specified machine: says whether it fails, and marks the cells that it executes.
+fn walk(head: Head, cells: &[u8], inputs: &[u8], outputs: &[u8], marks: &mut [u8]) -> bool
+    requires { ⌜ TableIn head (now cells) ⌝ }
+    requires { ⌜ CaseIn head (now inputs) (now outputs) ⌝ }
+    requires { ⌜ cellsMost ≤ length (now marks) ⌝ }
+    ensures { λ r. ⌜ Walked (specified head (now (cells .entry))) (record { inputs = now (inputs .entry); outputs = now (outputs .entry) }) r (now (marks .exit)) ⌝ }
+{
+    mark_executed(head, cells, inputs, marks);
+    is_failing(head, cells, inputs, outputs)
+}
+
+// 1 where a number's machine misses a walked case, else 0.
+fn missed(
+    head: Head,
+    cells: &[u8],
+    number: usize,
+    inputs: &[u8],
+    outputs: &[u8],
+    failing: bool,
+    marks: &[u8],
+) -> u16
     requires { ⌜ TableIn head (now cells) ⌝ }
     requires { ⌜ number < numbers head ⌝ }
     requires { ⌜ CaseIn head (now inputs) (now outputs) ⌝ }
+    requires { ⌜ Walked (specified head (now cells)) (record { inputs = now inputs; outputs = now outputs }) failing (now marks) ⌝ }
     ensures { λ r. ⌜ (r ≡ bit (misses head (now (cells .entry)) number (record { inputs = now (inputs .entry); outputs = now (outputs .entry) }))) × (r ≤ 1) ⌝ }
 {
-    is_missed(head, cells, number, inputs, outputs) as u16
+    is_missed_walked(head, cells, number, inputs, outputs, failing, marks) as u16
 }
 
 // Counts a case into the tallies.
@@ -39,9 +63,12 @@ pub fn raise(session: &[u8], tallies: &mut [u16], inputs: &[u8], outputs: &[u8])
     let head = head_of(session);
     let count = head.numbers();
     let cells = &session[CELLS..PLACES];
+    let mut marks = [0; Head::CELLS];
+    let failing = walk(head, cells, inputs, outputs, &mut marks);
     let mut number = 0;
     while number < count {
-        tallies[number] = tallies[number] + missed(head, cells, number, inputs, outputs);
+        tallies[number] = tallies[number]
+            + missed(head, cells, number, inputs, outputs, failing, &marks);
         number += 1;
     }
 }
@@ -57,9 +84,12 @@ pub fn lower(session: &[u8], tallies: &mut [u16], inputs: &[u8], outputs: &[u8])
     let head = head_of(session);
     let count = head.numbers();
     let cells = &session[CELLS..PLACES];
+    let mut marks = [0; Head::CELLS];
+    let failing = walk(head, cells, inputs, outputs, &mut marks);
     let mut number = 0;
     while number < count {
-        tallies[number] = tallies[number] - missed(head, cells, number, inputs, outputs);
+        tallies[number] = tallies[number]
+            - missed(head, cells, number, inputs, outputs, failing, &marks);
         number += 1;
     }
 }
@@ -91,9 +121,11 @@ pub fn can_lower(
     let head = head_of(session);
     let count = head.numbers();
     let cells = &session[CELLS..PLACES];
+    let mut marks = [0; Head::CELLS];
+    let failing = walk(head, cells, inputs, outputs, &mut marks);
     let mut number = 0;
     while number < count {
-        let miss = missed(head, cells, number, inputs, outputs) as usize;
+        let miss = missed(head, cells, number, inputs, outputs, failing, &marks) as usize;
         if !is_fair(tallies[number] as usize, miss, left) {
             return false;
         }

@@ -12,8 +12,6 @@ mod edits;
 mod reads;
 // The operations on the memory itself, the built-in tables and the retest.
 mod others;
-// The operation that judges a record.
-mod judge;
 
 use crate::edits::edit;
 use crate::operands::LEND;

@@ -40,6 +40,7 @@ pub fn two_bytes(script: &[u8], at: usize) -> usize
 // A number of four bytes.
 pub fn four_bytes(script: &[u8], at: usize) -> usize
     requires { ⌜ at + 4 ≤ length (now script) ⌝ }
+    ensures { λ r. ⌜ r < 4294967296 ⌝ }
 {
     two_bytes(script, at) * 65536 + two_bytes(script, at + 2)
 }

@@ -3,7 +3,6 @@
 use crate::buffers::fill_bytes;
 use crate::buffers::sum_bytes;
 use crate::buffers::sum_numbers;
-use crate::judge::judge_of;
 use crate::operands::CUT;
 use crate::operands::LEND;
 use crate::operands::four_bytes;
@@ -23,6 +22,7 @@ use crate::print::put_word;
 use house::refusal::Answer;
 use house::retest::pick;
 use house::retest::pick_refusal;
+use judge::judge;
 use product::eight_litre;
 use product::five_litre;
 use shapes::byte;
@@ -180,12 +180,9 @@ fn run_judge(script: &[u8], at: usize, out: &mut [u8]) -> usize {
     if script.len() - to2 < 4 {
         return CUT;
     }
-    let value = judge_of(
-        &script[from..to],
-        &script[from2..to2],
-        four_bytes(script, to2),
-    );
-    print_answer(out, b"JUDGE", Answer::Done(value));
+    let number = four_bytes(script, to2) as u32;
+    let value = judge(&script[from..to], &script[from2..to2], number);
+    print_answer(out, b"JUDGE", Answer::Done(value as usize));
     to2 + 4
 }
 

@@ -5,14 +5,14 @@ use Rattle.shapes.proofs.Keep.{bit-told}
 use Rattle.session.proofs.tally.missed.Statement.{statement}
 use Rattle.session.proofs.tally.missed.Tie as tie
 
-is-missed-requires : tie.Need-is-missed-requires
-is-missed-requires c κs = search needs
+is-missed-walked-requires : tie.Need-is-missed-walked-requires
+is-missed-walked-requires c κs = search needs
 
 cast-result : tie.Need-cast-result
 cast-result c = search needs
 
 returns : tie.Need-returns
-returns c = bit-told (c .is-missed .ensures)
+returns c = bit-told (c .is-missed-walked .ensures)
 
 pub missed-spec : {M : Type 1} → statement M
-missed-spec = tie.close (tie.spec is-missed-requires cast-result returns)
+missed-spec = tie.close (tie.spec is-missed-walked-requires cast-result returns)

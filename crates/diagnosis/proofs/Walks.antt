@@ -1,7 +1,7 @@
 -- A number on a cell that the specified path of a case never executes gives the specified outputs, so it misses the case exactly if the
 -- case fails; and a cell without a mark is one that was never executed. Assumes nothing.
 use Prim.Native.Nat.{ℕ, _≤_, _<_}
-use mathlib.Core.Path.{_≡_, sym, ap, _∙_}
+use mathlib.Core.Path.{_≡_, sym, _∙_}
 use mathlib.Core.List.{List}
 use mathlib.Core.Bool.{Bool, false}
 use native.Mathlib.Nat.{mul-le-mul}
@@ -9,7 +9,7 @@ use native.Mathlib.Omega.{arith}
 use lib.ListN.{length, getD}
 use Rattle.shapes.specs.Keep.{has}
 use Rattle.machine.specs.Limits.{cellsMost}
-use Rattle.machine.specs.Head.{HeadIn, cellCount}
+use Rattle.machine.specs.Head.{HeadIn}
 use Rattle.machine.specs.Machine.{Machine, specified}
 use Rattle.machine.specs.Fault.{faultOf, cellOf, FaultIn}
 use Rattle.machine.specs.Case.{Case}

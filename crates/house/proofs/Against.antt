@@ -1,10 +1,10 @@
 -- The cases of a record, judged against a head one after the other: what is left to judge says what all of them say. Assumes nothing.
 use Prim.Native.Nat.{ℕ, suc, _+_, _-_, _*_, _≤_, _<_}
-use mathlib.Core.Path.{_≡_, refl, sym, ap, _∙_}
+use mathlib.Core.Path.{_≡_, refl, sym, _∙_}
 use mathlib.Core.Bool.{true}
-use mathlib.Core.List.{List, [], _∷_}
+use mathlib.Core.List.{List, _∷_}
 use borrow.Author.Tests.{not-false}
-use native.Mathlib.Nat.{sub-zero, add-sub-cancel-left}
+use native.Mathlib.Nat.{sub-zero}
 use native.Mathlib.Omega.{arith}
 use lib.ListN.{length, getD, take, drop}
 use Rattle.shapes.specs.Refusals.{ruling, fine, refused}
@@ -12,7 +12,7 @@ use Rattle.shapes.proofs.Refusals.{ruling-end, ruling-join-refused, ruling-join
 use Rattle.machine.specs.Case.{Case, goodCase}
 use Rattle.machine.specs.declared.head.Head.{Head}
 use Rattle.house.specs.File.{restAt}
-use Rattle.house.specs.Cases.{stepsAt, caseEnd, caseAt, countIn, countOf, recordRules, casesFrom, casesIn, caseRules, casesRules}
+use Rattle.house.specs.Cases.{caseEnd, caseAt, countIn, countOf, recordRules, casesFrom, casesIn, caseRules, casesRules}
 use Rattle.house.specs.Retest.{placeOf}
 use Rattle.house.specs.declared.refusal.Refusal.{Refusal}
 use Rattle.house.specs.Refusal.{checked}

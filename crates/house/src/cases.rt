@@ -17,7 +17,7 @@ ghost use Rattle.shapes.specs.Refusals.{ruling, fine};
 ghost use Rattle.machine.specs.Limits.{stepsMost};
 ghost use Rattle.house.specs.Refusal.{checked};
 ghost use Rattle.house.specs.File.{restAt};
-ghost use Rattle.house.specs.Cases.{caseBytes, caseFits, caseEnd, countIn, recordRead, recordRules, countOf, casesIn, caseRules, casesRules, stepAt};
+ghost use Rattle.house.specs.Cases.{caseBytes, caseFits, countIn, recordRead, recordRules, countOf, casesIn, caseRules, casesRules, stepAt};
 
 // A place in a record file, between two cases.
 pub struct Cursor {

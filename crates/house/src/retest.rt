@@ -10,7 +10,7 @@ ghost use Prim.Native.Nat.{_+_, _*_, _≤_, _<_};
 ghost use lib.ListN.{length};
 ghost use Rattle.shapes.specs.Refusals.{ruling, fine};
 ghost use Rattle.house.specs.Refusal.{checked};
-ghost use Rattle.house.specs.Cases.{stepsAt, caseEnd, countIn, countOf, recordRules};
+ghost use Rattle.house.specs.Cases.{caseEnd, countIn, countOf, recordRules};
 ghost use Rattle.house.specs.Retest.{placeOf, sameInputs, matchOf, retestRules, retested, retestNumber};
 
 // Whether two cases have the same inputs.

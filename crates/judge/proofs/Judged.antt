@@ -35,7 +35,7 @@ use Rattle.house.proofs.Records.{rules-refuse, rules-pass}
 use Rattle.house.proofs.Places.{place-next}
 use Rattle.house.proofs.Against.{next-case, case-known}
 use Rattle.diagnosis.specs.Diagnosis.{explains, misses, fails, explainsAll}
-use Rattle.judge.specs.Judge.{judgeRules, refusedFrom, judged, judgement}
+use Rattle.judge.specs.Judge.{judgeRules, refusedFrom, judgement}
 
 -- where trying stands: before case i, at its place, and no case was missed
 pub record Trying (h : Head) (cells : List ℕ) (number : ℕ) (file : List ℕ) (count i at : ℕ) : Type 0 where

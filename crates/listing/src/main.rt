@@ -6,21 +6,20 @@ use house::refusal::Answer;
 use house::refusal::Refusal;
 use machine::fault::Fault;
 use machine::fault::Kind;
-use machine::fault::MadeFault;
 use machine::head::Head;
-use machine::head::MadeHead;
 use session::calls::load;
 use session::calls::start;
 use session::layout::SESSION;
 use session::layout::TALLIES;
+use session::layout::head_of;
 use session::read::Listing;
 use session::read::list;
 use shapes::byte;
 ghost use mathlib.Core.Path.{_≡_};
-ghost use Prim.Native.Nat.{_+_, _*_, _≤_, min};
+ghost use Prim.Native.Nat.{ℕ, _+_, _*_, _≤_, _<_, min};
 ghost use lib.ListN.{length, getD};
-ghost use Rattle.machine.specs.Head.{HeadIn};
-ghost use Rattle.session.specs.Layout.{sessionSize, talliesSize};
+ghost use Rattle.machine.specs.Head.{HeadIn, numbers};
+ghost use Rattle.session.specs.Layout.{sessionSize, talliesSize, headOf};
 
 // The most bytes that an input has.
 const MOST: usize = 16384;
@@ -88,10 +87,9 @@ fn print_kind(kind: Kind) {
 // Prints a number's fault: its state, input, kind and wrong value.
 fn print_fault(head: Head, number: usize)
     requires { ⌜ HeadIn head ⌝ }
+    requires { ⌜ number < numbers head ⌝ }
 {
-    let MadeFault::Made(fault) = Fault::new(head, number) else {
-        return;
-    };
+    let fault = Fault::numbered(head, number);
     let kind = fault.kind;
     io::print_decimal(1, number as u64);
     print_number(fault.cell / head.inputs);
@@ -101,35 +99,32 @@ fn print_fault(head: Head, number: usize)
     end_line();
 }
 
-fn print_faults(head: Head, numbers: &[u16])
+fn print_faults(head: Head, faults: &[u16])
     requires { ⌜ HeadIn head ⌝ }
+    requires { ⌜ ((i : ℕ) → i < length (now faults) → getD (now faults) i 0 < numbers head) ⌝ }
 {
     let mut i = 0;
-    while i < numbers.len() {
-        print_fault(head, numbers[i] as usize);
+    while i < faults.len() {
+        print_fault(head, faults[i] as usize);
         i += 1;
     }
 }
 
 // Prints a list of the faults of a session's table.
-fn print_list(session: &[u8], verdict: Verdict, count: usize, numbers: &[u16])
-    requires { ⌜ 3 ≤ length (now session) ⌝ }
-    requires { ⌜ count ≤ length (now numbers) ⌝ }
+fn print_list(session: &[u8], verdict: Verdict, count: usize, faults: &[u16])
+    requires { ⌜ sessionSize ≤ length (now session) ⌝ }
+    requires { ⌜ HeadIn (headOf (now session)) ⌝ }
+    requires { ⌜ count ≤ length (now faults) ⌝ }
+    requires { ⌜ ((i : ℕ) → i < count → getD (now faults) i 0 < numbers (headOf (now session))) ⌝ }
 {
     print_verdict(verdict);
     print_number(count);
     end_line();
-    let MadeHead::Made(head) = Head::new(byte(session, 0), byte(session, 1), byte(session, 2))
-    else {
-        return;
-    };
-    print_faults(head, &numbers[0..count]);
+    print_faults(head_of(session), &faults[0..count]);
 }
 
 // Lists the faults of a session by way of `numbers`.
-fn show_list(session: &[u8], tallies: &[u16], numbers: &mut [u16])
-    requires { ⌜ 3 ≤ length (now session) ⌝ }
-{
+fn show_list(session: &[u8], tallies: &[u16], numbers: &mut [u16]) {
     let listing = list(session, tallies, numbers);
     match listing {
         Listing::Faults(verdict, count) => print_list(session, verdict, count, numbers),
@@ -149,9 +144,7 @@ fn table_end(input: &[u8]) -> usize
 }
 
 // Lists what a table file and the record after it come to.
-fn list_input(input: &[u8], session: &mut [u8], tallies: &mut [u16], numbers: &mut [u16])
-    requires { ⌜ 3 ≤ length (now session) ⌝ }
-{
+fn list_input(input: &[u8], session: &mut [u8], tallies: &mut [u16], numbers: &mut [u16]) {
     let end = table_end(input);
     let started = start(session, tallies, &input[0..end]);
     if let Answer::Refused(refusal) = started {
@@ -167,9 +160,7 @@ fn list_input(input: &[u8], session: &mut [u8], tallies: &mut [u16], numbers: &m
 }
 
 // Reads the input, and refuses a longer one.
-fn run(room: &mut [u8], session: &mut [u8], tallies: &mut [u16], numbers: &mut [u16])
-    requires { ⌜ 3 ≤ length (now session) ⌝ }
-{
+fn run(room: &mut [u8], session: &mut [u8], tallies: &mut [u16], numbers: &mut [u16]) {
     let count = io::read_full(0, room);
     if MOST < count {
         print_refusal(Refusal::Length);

@@ -1,8 +1,8 @@
 -- What a number that is in use stands for: a cell of the table and a value of its kind, and a change that leads to a state. A number
 -- whose value is the cell's own changes nothing.
 -- Assumes nothing.
-use Prim.Native.Nat.{ℕ, _+_, _-_, _*_, _/_, _%_, _<_, _≤_}
-use mathlib.Core.Path.{_≡_, refl, sym, fun-ext, ap}
+use Prim.Native.Nat.{ℕ, _+_, _-_, _/_, _%_, _<_}
+use mathlib.Core.Path.{_≡_, refl, fun-ext, ap}
 use mathlib.Core.List.{List}
 use mathlib.Core.Bool.{Bool, true, false, cond}
 use borrow.Author.Tests.{ltb-true, ltb-false, eqb-true}
@@ -19,7 +19,6 @@ use Rattle.machine.specs.declared.fault.Change.{Change}
 use Rattle.machine.specs.declared.fault.Fault.{Fault}
 use Rattle.machine.specs.declared.fault.Kind.{Kind}
 use Rattle.machine.specs.declared.fault.Kind.the-variants.{Output, Transfer}
-use Rattle.machine.specs.declared.fault.MadeFault.{MadeFault}
 use Rattle.machine.specs.declared.fault.MadeFault.the-variants.{Made, Nothing}
 use Rattle.machine.proofs.Numbers.{number-cell}
 use Rattle.machine.proofs.Moves.{completed-in}

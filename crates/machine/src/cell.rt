@@ -6,7 +6,7 @@ ghost use Prim.Native.Nat.{_+_, _*_, _<_, _≤_};
 ghost use lib.ListN.{length};
 ghost use Rattle.machine.specs.Head.{HeadIn, cellCount};
 ghost use Rattle.machine.specs.Cell.{undefined, badCell, firstBad, TableIn};
-ghost use Rattle.machine.specs.Machine.{completed, specified, cellAt};
+ghost use Rattle.machine.specs.Machine.{completed, specified};
 
 // Both bytes of an undefined cell.
 pub const UNDEFINED: usize = 255;

@@ -6,7 +6,7 @@ use mathlib.Core.Path.{_≡_, refl, sym, subst, _∙_}
 use mathlib.Core.Bool.{Bool, true, false, cond}
 use mathlib.Core.List.{List, [], _∷_}
 use borrow.Author.Tests.{ltb-false, leb-false, not-false}
-use native.Mathlib.Nat.{mul-le-mul, sub-zero}
+use native.Mathlib.Nat.{sub-zero}
 use native.Mathlib.Omega.{arith}
 use lib.Dec.{ltb}
 use lib.ListN.{length, getD}
@@ -14,8 +14,8 @@ use Rattle.shapes.specs.Keep.{every}
 use Rattle.shapes.specs.Refusals.{Ruling, fine, refused, ruling}
 use Rattle.shapes.proofs.Refusals.{fine-when, ruling-joined}
 use Rattle.shapes.proofs.Tests.{and-true}
-use Rattle.machine.specs.Limits.{statesMost, outputsMost, stepsMost}
-use Rattle.machine.specs.Head.{width, numbers}
+use Rattle.machine.specs.Limits.{stepsMost}
+use Rattle.machine.specs.Head.{numbers}
 use Rattle.machine.specs.Cell.{TableIn}
 use Rattle.machine.specs.Case.{Case, goodCase, CaseIn}
 use Rattle.machine.specs.declared.head.Head.{Head}
@@ -40,7 +40,7 @@ use Rattle.session.specs.Calls.{after, outcomeOr, formRules, isSlot, slo
 use Rattle.session.proofs.Formed.{formed-table, formed-tally, table-good, cases-few}
 use Rattle.session.proofs.Stored.{head-placed, cells-placed, length-placed}
 use Rattle.session.proofs.Tallied.{lowered-in, length-lowered, length-raised}
-use Rattle.session.proofs.Kept.{good-fits, slot-inside, add-count, add-keeps, loaded-same, free-left, cells-few}
+use Rattle.session.proofs.Kept.{good-fits, slot-inside, add-count, add-keeps, loaded-same, free-left, formed-numbers}
 use Rattle.session.proofs.Known.{told-fine, told-refused, rules-formed, rules-slot, slot-room}
 
 -- cases that no rule refuses can be run
@@ -50,13 +50,6 @@ cases-known h [] e = refl
 cases-known h (c ∷ cs) e =
     let a = ruling-joined (caseRules h c) (casesRules h cs) e in rw (case-known h c (a .0), cases-known h cs (a .1))
 
--- there are at most as many numbers as tallies
-numbers-few : (s t : List ℕ) → Formed s t → numbers (headOf s) ≤ talliesSize
-numbers-few s t k =
-    let h = table-good s (k .session-room) (formed-table s t k) .head in
-    let w : width (headOf s) ≤ statesMost + outputsMost = omega arith in
-    mul-le-mul (cells-few (headOf s) h) w
-
 -- at most 64 cases are held
 held-few : (s : List ℕ) → length (cases s) ≤ placesMost
 unfolding cases
@@ -65,7 +58,7 @@ held-few s = cases-few s placesMost
 -- a tally in use is at most 64
 tally-few : (s t : List ℕ) → Formed s t → (f : ℕ) → f < numbers (headOf s) → getD t f 0 ≤ placesMost
 unfolding tallyMost
-tally-few s t k f l = go (ltb f (numbers (headOf s))) (formed-tally s t k f (omega (arith, numbers-few s t k)))
+tally-few s t k f l = go (ltb f (numbers (headOf s))) (formed-tally s t k f (omega (arith, formed-numbers s t k)))
   where
     go : (b : Bool) → getD t f 0 ≤ cond b (length (cases s)) 0 → getD t f 0 ≤ placesMost
     go true e = omega (arith, held-few s)
@@ -107,7 +100,7 @@ module _ (s t : List ℕ) (k : Formed s t) (c : Case) (g : goodCase (headOf s) (
   raise-again d t′ e =
       rw e
       (raise-lower (lowered s d t) (length-lowered s d t)
-      (λ f l. rw (lowered-in s d t f l (omega (arith, numbers-few s t k, k .tallies-room))) (omega arith)))
+      (λ f l. rw (lowered-in s d t f l (omega (arith, formed-numbers s t k, k .tallies-room))) (omega arith)))
 
   -- and it can be stored in any place
   pub store-known : (p : ℕ) → p < placesMost → CanStore s p c

@@ -33,14 +33,13 @@ use Rattle.house.specs.declared.cases.RecordFile.the-variants.{Record}
 use Rattle.house.proofs.Tables.{table-taken}
 use Rattle.house.proofs.Records.{record-reads-back}
 use Rattle.diagnosis.specs.Diagnosis.{tally, list, someFails, verdictOf, isCandidate, allGood}
-use Rattle.diagnosis.proofs.Lists.{list-by-tallies}
-use Rattle.diagnosis.proofs.Candidates.{candidate-law}
 use Rattle.session.specs.Layout.{placesMost, cellsAt, cellsRoom, sessionSize, talliesSize, headOf, cellsOf, isHeld, caseOf, caseIf, heldTo, cases, freePlace, noCase}
 use Rattle.session.specs.Form.{Formed, TrueTallies}
 use Rattle.session.specs.Calls.{outcomeOr, roomRules, formRules, isSlot, slotRules, miss, canTake, raised, lowered, placed, started, cleared, startRules, startCall, addRules, addCall, withdrawRules, withdrawCall, amendRules, amendCall, loadedSession, loadedTallies, roomForRules, loadRules, loadCall}
 use Rattle.session.specs.Reads.{machineOf, listOf, verdictIn, falseTally, auditIf, auditOr, auditCall}
 use Rattle.session.specs.History.{Call, start, add, amend, withdraw, load, Memory, memory, left, carried, carriedAll, Slot, free, holds, Model, isHolding, slotCases, casesTo, casesHeld, lowest, put, putAll, withPlaces, cellBytes, startedModel, fitsTable, startOr, loadOr, step, steps, slotOf, Shows}
 use Rattle.session.specs.declared.read.Audited as Audited-type
+use Rattle.session.proofs.Listed.{list-by-replay, candidate-listed}
 use Rattle.session.proofs.Formed.{cases-good, cases-few}
 use Rattle.session.proofs.Stored.{Fits, no-fits, head-placed, cells-placed, case-placed, held-placed, steps-elsewhere, case-elsewhere}
 use Rattle.session.proofs.Tallied.{miss-few}
@@ -427,14 +426,9 @@ module _ (s t : List ℕ) (m : Model) (k : Shows s t m) where
   shown-tally f l =
       k .true-tallies f (rw (ap numbers (k .same-head)) l) ∙ (λ i. tally (k .same-head i) (k .same-cells i) (shown-cases s t m k i) f)
 
-  -- the list by tallies is the list of the held cases ..
-  list-true : listOf s t ≡ list (headOf s) (cellsOf s) (cases s)
-  unfolding listOf
-  list-true = list-by-tallies (headOf s) (cellsOf s) (cases s) (λ f. getD t f 0) (k .true-tallies)
-
-  -- .. so it is that of the model's cases taken afresh,
+  -- the list by tallies is that of the model's cases taken afresh,
   pub shown-list : listOf s t ≡ list (m .head) (m .cells) (casesHeld m)
-  shown-list = list-true ∙ (λ i. list (k .same-head i) (k .same-cells i) (shown-cases s t m k i))
+  shown-list = list-by-replay s t (k .true-tallies) ∙ (λ i. list (k .same-head i) (k .same-cells i) (shown-cases s t m k i))
 
   -- and so is the verdict
   pub shown-verdict : verdictIn s t ≡ verdictOf (someFails (m .head) (m .cells) (casesHeld m)) (list (m .head) (m .cells) (casesHeld m))
@@ -462,8 +456,7 @@ module _ (s t : List ℕ) (m : Model) (k : Shows s t m) where
 pub shown-candidate : (s t : List ℕ) (m : Model) (f : ℕ) → Shows s t m → someFails (m .head) (m .cells) (casesHeld m) ≡ true
     → has f (listOf s t) ≡ true → isCandidate (machineOf s) (cases s) (cellOf (headOf s) f) ≡ true
 shown-candidate s t m f k bad listed =
-    candidate-law (headOf s) (cellsOf s) (cases s) f (cases-good s t (k .formed))
-    ((λ i. someFails (k .same-head i) (k .same-cells i) (shown-cases s t m k i)) ∙ bad) (ap (has f) (sym (list-true s t m k)) ∙ listed)
+    candidate-listed s t f (k .formed) (k .true-tallies) ((λ i. someFails (k .same-head i) (k .same-cells i) (shown-cases s t m k i)) ∙ bad) listed
 
 -- cases that can be run can be recorded
 good-recordable : (h : Head) (cs : List Case) → allGood h cs ≡ true → AllRecordable cs

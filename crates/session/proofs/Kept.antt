@@ -18,8 +18,8 @@ use Rattle.shapes.proofs.First.{first-same, all-from}
 use Rattle.shapes.proofs.Keep.{count-among}
 use Rattle.shapes.proofs.Edit.{edit-in, length-edit}
 use Rattle.shapes.proofs.Tests.{and-true}
-use Rattle.machine.specs.Limits.{cellsMost, stepsMost}
-use Rattle.machine.specs.Head.{HeadIn, goodHead, cellCount, numbers}
+use Rattle.machine.specs.Limits.{statesMost, outputsMost, cellsMost, stepsMost}
+use Rattle.machine.specs.Head.{HeadIn, goodHead, cellCount, width, numbers}
 use Rattle.machine.specs.Cell.{undefined, badCell, firstBad, TableIn}
 use Rattle.machine.specs.Case.{Case, goodCase}
 use Rattle.machine.specs.declared.head.Head.{Head}
@@ -32,7 +32,7 @@ use Rattle.diagnosis.specs.Diagnosis.{misses, allGood}
 use Rattle.session.specs.Layout.{placesMost, placesAt, cellsAt, cellsRoom, sessionSize, talliesSize, headOf, cellsOf, placeAt, stepsOf, isHeld, caseOf, heldTo, cases, freePlace, noCase}
 use Rattle.session.specs.Form.{goodTable, zerosAfter, goodPlace, tallyMost, Formed}
 use Rattle.session.specs.Calls.{isSlot, miss, canTake, raised, lowered, placed, started, cleared, loadedSession, loadedTallies}
-use Rattle.session.proofs.Formed.{formed-table, formed-place, formed-tally, formed-from, place-few, free-low, free-none}
+use Rattle.session.proofs.Formed.{table-good, formed-table, formed-place, formed-tally, formed-from, place-few, free-low, free-none}
 use Rattle.session.proofs.Stored.{Fits, no-fits, length-placed, head-placed, cells-placed, table-placed, place-elsewhere, place-stored, place-cleared, cases-around}
 use Rattle.session.proofs.Tallied.{raised-in, raised-out, length-raised, lowered-in, lowered-out, length-lowered, miss-few, can-take-at}
 
@@ -227,6 +227,14 @@ load-keeps s t cs k = load-adds Formed (λ s t c k now. add-keeps s t c k) s t c
 -- a table has at most 256 cells
 pub cells-few : (h : Head) → HeadIn h → cellCount h ≤ cellsMost
 cells-few h k = mul-le-mul (k .few-states) (k .few-inputs)
+
+-- and at most as many numbers as a session has tallies
+pub numbers-few : (h : Head) → HeadIn h → numbers h ≤ talliesSize
+numbers-few h k = let w : width h ≤ statesMost + outputsMost = omega arith in mul-le-mul (cells-few h k) w
+
+-- so has the table of a session that is well-formed
+pub formed-numbers : (s t : List ℕ) → Formed s t → numbers (headOf s) ≤ talliesSize
+formed-numbers s t k = numbers-few (headOf s) (table-good s (k .session-room) (formed-table s t k) .head)
 
 -- the lowest bad cell depends on the bytes of the cells only
 bad-same : (h : Head) (cells cells′ : List ℕ) → ((i : ℕ) → i < 2 * cellCount h → getD cells i 0 ≡ getD cells′ i 0)

@@ -15,3 +15,4 @@ pub mod AllKept
 pub mod Exactly
 pub mod Answers
 pub mod Tied
+pub mod Tails

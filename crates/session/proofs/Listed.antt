@@ -1,7 +1,7 @@
 -- What the calls that read a session say of their definitions: the listed numbers one by one, the held cases place by place, and each
 -- call's answer from its checks. Assumes nothing.
 use Prim.Native.Nat.{ℕ, zero, suc, _+_, _-_, _≤_, _<_}
-use mathlib.Core.Path.{_≡_, refl, sym, _∙_}
+use mathlib.Core.Path.{_≡_, refl, sym, ap, _∙_}
 use mathlib.Core.List.{List, [], _∷_, _++_, append-nil}
 use mathlib.Core.Bool.{Bool, true, false, not, _&&_, _||_}
 use mathlib.Core.Logic.{_⊎_, inl, inr}
@@ -14,14 +14,14 @@ use lib.ListN.{length, getD, set, length-append}
 use mir.Val.{boolByte}
 use Rattle.shapes.specs.First.{first}
 use Rattle.shapes.specs.Edit.{filled}
-use Rattle.shapes.specs.Keep.{keepIf, keepTo, count, some}
+use Rattle.shapes.specs.Keep.{keepIf, keepTo, has, count, some}
 use Rattle.shapes.specs.Refusals.{ruling}
 use Rattle.shapes.proofs.Edit.{length-filled, filled-one, filled-append}
 use Rattle.shapes.proofs.Keep.{keep-more}
 use Rattle.shapes.proofs.Refusals.{ruling-join-refused, ruling-join-fine}
 use Rattle.machine.specs.Head.{numbers}
 use Rattle.machine.specs.Machine.{specified}
-use Rattle.machine.specs.Fault.{isFault}
+use Rattle.machine.specs.Fault.{cellOf, isFault}
 use Rattle.machine.specs.Case.{Case}
 use Rattle.machine.specs.Run.{symptomsOf}
 use Rattle.machine.specs.declared.head.Head.{Head}
@@ -31,10 +31,13 @@ use Rattle.house.specs.declared.refusal.Checked.the-variants.{Fine, Refused}
 use Rattle.house.specs.declared.refusal.Refusal.{Refusal}
 use Rattle.house.specs.declared.refusal.Refusal.the-variants.{Short}
 use Rattle.house.proofs.Forms.{checked-fine, checked-refused}
-use Rattle.diagnosis.specs.Diagnosis.{fails, misses, tally, someFails, verdictOf}
+use Rattle.diagnosis.specs.Diagnosis.{fails, misses, tally, list, someFails, verdictOf, isCandidate}
 use Rattle.diagnosis.specs.declared.Verdict.{Verdict}
 use Rattle.diagnosis.specs.declared.Verdict.the-variants as verdicts
+use Rattle.diagnosis.proofs.Lists.{list-by-tallies}
+use Rattle.diagnosis.proofs.Candidates.{candidate-law}
 use Rattle.session.specs.Layout.{headOf, cellsOf, placeAt, stepsOf, isHeld, caseOf, caseIf, heldTo, cases}
+use Rattle.session.specs.Form.{Formed, TrueTallies}
 use Rattle.session.specs.Calls.{formRules, slotRules}
 use Rattle.session.specs.Reads.{machineOf, listOf, verdictIn, verdictBy, listRules, listed, listCall, falseTally, auditCall, symptomsCall}
 use Rattle.session.specs.declared.layout.Place.{Place}
@@ -42,6 +45,7 @@ use Rattle.session.specs.declared.read.Listing.the-variants as listings
 use Rattle.session.specs.declared.read.Audited.the-variants as audits
 use Rattle.session.specs.declared.read.Shown.the-variants as shows
 use Rattle.shapes.proofs.Keep.{bit-told}
+use Rattle.session.proofs.Formed.{cases-good}
 use Rattle.session.proofs.Known.{caseRead, parts-case, parts-read}
 
 -- a number more that is kept counts as one, else as none
@@ -124,6 +128,17 @@ listed-told s t f e d = rw e at d
 pub list-told : (s t : List ℕ) {h : Head} {n m : ℕ} → h ≡ headOf s → n ≡ numbers h → m ≡ n → keepTo (listedAt s t) m ≡ listOf s t
 unfolding listOf
 list-told s t e d i = rw (i, d, e)
+
+-- where the tallies are true the list by them is the list by replay,
+pub list-by-replay : (s t : List ℕ) → TrueTallies s t → listOf s t ≡ list (headOf s) (cellsOf s) (cases s)
+unfolding listOf
+list-by-replay s t k = list-by-tallies (headOf s) (cellsOf s) (cases s) (λ f. getD t f 0) k
+
+-- so "where some case fails .., the cell of every listed fault is a candidate", in any well-formed session whose tallies are true
+pub candidate-listed : (s t : List ℕ) (f : ℕ) → Formed s t → TrueTallies s t → someFails (headOf s) (cellsOf s) (cases s) ≡ true
+    → has f (listOf s t) ≡ true → isCandidate (machineOf s) (cases s) (cellOf (headOf s) f) ≡ true
+candidate-listed s t f k true-tallies bad here =
+    candidate-law (headOf s) (cellsOf s) (cases s) f (cases-good s t k) bad (ap (has f) (sym (list-by-replay s t true-tallies)) ∙ here)
 
 -- a test holds for some of two lists exactly if it does for some of either
 some-append : {A : Type 0} (p : A → Bool) (l r : List A) → some p (l ++ r) ≡ (some p l || some p r)

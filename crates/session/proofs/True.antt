@@ -5,7 +5,6 @@ use Prim.Native.Nat.{ℕ, _+_, _-_, _≤_, _<_}
 use mathlib.Core.Path.{_≡_, sym, ap, _∙_}
 use mathlib.Core.List.{List, []}
 use mathlib.Core.Bool.{true, _&&_}
-use native.Mathlib.Nat.{mul-le-mul}
 use native.Mathlib.Omega.{arith}
 use lib.Dec.{leb}
 use lib.ListN.{length, getD}
@@ -13,8 +12,7 @@ use borrow.Author.Tests.{le-leb}
 use Rattle.shapes.specs.Keep.{count}
 use Rattle.shapes.proofs.First.{all-from}
 use Rattle.shapes.proofs.Keep.{count-most}
-use Rattle.machine.specs.Limits.{statesMost, outputsMost}
-use Rattle.machine.specs.Head.{HeadIn, width, numbers}
+use Rattle.machine.specs.Head.{numbers}
 use Rattle.machine.specs.Case.{Case, goodCase}
 use Rattle.machine.specs.declared.head.Head.{Head}
 use Rattle.house.specs.Table.{tableRead}
@@ -24,20 +22,15 @@ use Rattle.diagnosis.specs.Diagnosis.{misses, tally, allGood}
 use Rattle.session.specs.Layout.{placesMost, sessionSize, talliesSize, headOf, cellsOf, caseOf, cases, freePlace, noCase}
 use Rattle.session.specs.Form.{Formed, TrueTallies}
 use Rattle.session.specs.Calls.{isSlot, miss, canTake, raised, lowered, placed, started, cleared, loadedSession, loadedTallies}
-use Rattle.session.proofs.Formed.{table-good, formed-table, free-low}
+use Rattle.session.proofs.Formed.{free-low}
 use Rattle.session.proofs.Stored.{Fits, no-fits, head-placed, cells-placed}
 use Rattle.session.proofs.Tallied.{raised-in, lowered-in, length-lowered}
-use Rattle.session.proofs.Kept.{OneMore, length-more, count-more, good-fits, slot-inside, slot-held, cases-taken, cases-free, cases-put, load-adds, cells-few, started-none, table-short, started-table, cleared-zero}
+use Rattle.session.proofs.Kept.{OneMore, length-more, count-more, good-fits, slot-inside, slot-held, cases-taken, cases-free, cases-put, load-adds, numbers-few, formed-numbers, started-none, table-short, started-table, cleared-zero}
 
--- a table has at most as many fault numbers as there are tallies
-numbers-few : (h : Head) → HeadIn h → numbers h ≤ talliesSize
-numbers-few h k =
-    let w : width h ≤ statesMost + outputsMost = omega arith in mul-le-mul (cells-few h k) w
-
--- so each tally in use is there
+-- each tally in use is there
 tally-there : (s t : List ℕ) → Formed s t → (f : ℕ) → f < numbers (headOf s) → f < length t
 tally-there s t k f l =
-    omega (arith, k .tallies-room, numbers-few (headOf s) (table-good s (k .session-room) (formed-table s t k) .head))
+    omega (arith, k .tallies-room, formed-numbers s t k)
 
 -- one case more is counted where the number's machine misses it
 tally-more : (s : List ℕ) {c : Case} {few many : List Case} → OneMore c few many

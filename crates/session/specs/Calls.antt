@@ -1,10 +1,10 @@
 -- The calls that change a session (document 01, "Session memory", "Refusal numbers", Order): each is its rules in the paper's order, and what
 -- is done where none refuses. A refusal leaves both buffers as they were.
-use Prim.Native.Nat.{ℕ, _+_, _-_, _*_}
+use Prim.Native.Nat.{ℕ, _+_, _-_}
 use mathlib.Core.List.{List, [], _∷_, _++_}
 use mathlib.Core.Bool.{Bool, not, _&&_}
-use lib.Dec.{eqb, ltb, leb}
-use lib.ListN.{length, getD, drop}
+use lib.Dec.{ltb, leb}
+use lib.ListN.{length, getD}
 use Rattle.shapes.specs.First.{allTo}
 use Rattle.shapes.specs.Edit.{edit}
 use Rattle.shapes.specs.Keep.{bit}

@@ -10,8 +10,8 @@ use lib.ListN.{length, getD}
 use Rattle.shapes.specs.First.{allTo, zeros}
 use Rattle.machine.specs.Limits.{stepsMost}
 use Rattle.machine.specs.Head.{goodHead, cellCount, numbers}
-use Rattle.machine.specs.Cell.{firstBad, TableIn}
-use Rattle.machine.specs.Case.{Case, goodCase, CaseIn}
+use Rattle.machine.specs.Cell.{firstBad}
+use Rattle.machine.specs.Case.{goodCase}
 use Rattle.diagnosis.specs.Diagnosis.{tally}
 use Rattle.session.specs.Layout.{placesMost, cellsAt, cellsRoom, sessionSize, talliesSize, headOf, cellsOf, placeAt, stepsOf, isHeld, caseOf, cases}
 

@@ -1,6 +1,6 @@
 -- Histories (demand 3): any list of calls after a start, on the memory by the definitions that the contracts cite, and on a model that never
 -- looks at memory: a table, and places each free or holding a case.
-use Prim.Native.Nat.{ℕ, zero, suc, _+_, _-_, _≤_, _<_}
+use Prim.Native.Nat.{ℕ, zero, suc, _+_, _-_, _<_}
 use mathlib.Core.Path.{_≡_}
 use mathlib.Core.List.{List, [], _∷_, _++_}
 use mathlib.Core.Bool.{Bool, true, false, cond, not, _&&_}
@@ -15,7 +15,7 @@ use Rattle.house.specs.Cases.{recordRead, casesIn}
 use Rattle.house.specs.declared.table.TableFile as TableFile-type
 use Rattle.house.specs.declared.cases.RecordFile as RecordFile-type
 use Rattle.diagnosis.specs.Diagnosis.{allGood}
-use Rattle.session.specs.Layout.{placesMost, cellsRoom, headOf, cellsOf, isHeld, caseOf, caseIf}
+use Rattle.session.specs.Layout.{placesMost, cellsRoom, headOf, cellsOf, isHeld, caseOf}
 use Rattle.session.specs.Form.{Formed, TrueTallies}
 use Rattle.session.specs.Calls.{Outcome, after, startCall, addCall, amendCall, withdrawCall, loadCall}
 

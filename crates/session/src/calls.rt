@@ -26,17 +26,16 @@ use machine::replay::Replay;
 use shapes::byte;
 ghost use mathlib.Core.Path.{_≡_};
 ghost use mathlib.Core.Bool.{true};
-ghost use Prim.Native.Nat.{ℕ, _+_, _≤_, _<_};
-ghost use lib.ListN.{length, getD};
+ghost use Prim.Native.Nat.{_+_, _≤_, _<_};
+ghost use lib.ListN.{length};
 ghost use Rattle.shapes.specs.Refusals.{ruling, fine};
-ghost use Rattle.machine.specs.Head.{numbers};
 ghost use Rattle.machine.specs.Case.{goodCase};
 ghost use Rattle.house.specs.Refusal.{checked};
 ghost use Rattle.house.specs.Cases.{recordRules, recordOr, casesIn, countIn, countOf};
 ghost use Rattle.diagnosis.specs.Diagnosis.{allGood};
 ghost use Rattle.session.specs.Layout.{placesMost, sessionSize, headOf, caseOf, cases, freePlace, noCase};
 ghost use Rattle.session.specs.Form.{Formed};
-ghost use Rattle.session.specs.Calls.{after, isSlot, miss, canTake, raised, lowered, placed, startRules, startCall, addRules, addCall, slotRules, withdrawRules, withdrawCall, amendRules, amendCall, roomForRules, loadRules, loadCall, loadedSession, loadedTallies};
+ghost use Rattle.session.specs.Calls.{after, isSlot, canTake, raised, lowered, placed, startRules, startCall, addRules, addCall, slotRules, withdrawRules, withdrawCall, amendRules, amendCall, roomForRules, loadRules, loadCall, loadedSession, loadedTallies};
 
 // The refusal of a start.
 fn check_start(session: &[u8], tallies: &[u16], file: &[u8]) -> Checked

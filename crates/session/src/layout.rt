@@ -6,7 +6,7 @@ use shapes::byte;
 ghost use mathlib.Core.Path.{_≡_};
 ghost use Prim.Native.Nat.{_≤_, _<_};
 ghost use lib.ListN.{length};
-ghost use Rattle.session.specs.Layout.{placesMost, sessionSize, talliesSize, headOf, placeAt, stepsOf, freePlace, cases};
+ghost use Rattle.session.specs.Layout.{placesMost, sessionSize, headOf, placeAt, stepsOf, freePlace, cases};
 
 // Where the cells stand.
 pub const CELLS: usize = 3;

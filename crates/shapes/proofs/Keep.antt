@@ -2,7 +2,7 @@
 -- number.
 -- Each by induction. Assumes nothing.
 use Prim.Native.Nat.{ℕ, zero, suc, _+_, _≤_, _<_}
-use mathlib.Core.Path.{_≡_, refl, sym, ap, _∙_}
+use mathlib.Core.Path.{_≡_, refl, sym}
 use mathlib.Core.List.{List, [], _∷_, _++_, append-nil}
 use mathlib.Core.Bool.{Bool, true, false, not, _&&_, _||_}
 use mathlib.Core.Logic.{_⊎_, inl, inr}
@@ -72,7 +72,7 @@ keep-same p q zero e = refl
 keep-same p q (suc n) e = rw (keep-same p q n (λ i l. e i (omega arith)), e n (omega arith))
 
 -- what is kept is below n
-kept-below : (p : ℕ → Bool) (n i : ℕ) → i < length (keepTo p n) → getD (keepTo p n) i 0 < n
+pub kept-below : (p : ℕ → Bool) (n i : ℕ) → i < length (keepTo p n) → getD (keepTo p n) i 0 < n
 unfolding keepTo
 kept-below p zero i h = absurd (omega arith)
 kept-below p (suc n) i h = go (p n) (kept-below p n i) h

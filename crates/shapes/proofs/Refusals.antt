@@ -6,7 +6,7 @@ use mathlib.Core.Bool.{Bool, true, false}
 use mathlib.Core.Logic.{_⊎_, inl, inr, _↔_}
 use mathlib.Core.List.{List, [], _∷_, _++_}
 use native.Mathlib.Omega.{arith}
-use Rattle.shapes.specs.Refusals.{Rule, when, Ruling, fine, refused, ruling, AllFalse, RefusedBy}
+use Rattle.shapes.specs.Refusals.{Rule, when, fine, refused, ruling, AllFalse, RefusedBy}
 
 module _ {R : Type 0} where
   -- a true test refuses, whatever comes after

@@ -26,7 +26,7 @@ cast-print-fault : tie.Need-cast-print-fault Inv-loop μ-loop
 cast-print-fault c = omega (arith, c .shared-slice-known2 .given (c .before .before .loop .i))
 
 print-fault-requires : tie.Need-print-fault-requires Inv-loop μ-loop
-print-fault-requires c κs = search needs
+print-fault-requires c κs = (c .before .before .before .before .pre .0, c .before .before .before .before .pre .1 _ (c .before .loop-test .taken))
 
 add-i : tie.Need-add-i Inv-loop μ-loop
 add-i c = search needs

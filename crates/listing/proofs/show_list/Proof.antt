@@ -1,7 +1,8 @@
--- `listing::show_list` meets its contract: the count of the listing is no more than the buffer holds (`listing-fits`).
+-- `listing::show_list` meets its contract: what is listed can be printed, since the session was tested and the list is whole (`listing-head`,
+-- `listing-fits`, `listing-in-use`).
 -- Assumes nothing.
 use borrow.Author.Needs.{needs}
-use Rattle.listing.proofs.Fits.{listing-fits}
+use Rattle.listing.proofs.Fits.{listing-room, listing-head, listing-fits, listing-in-use}
 use Rattle.listing.proofs.show_list.Statement.{statement}
 use Rattle.listing.proofs.show_list.Tie as tie
 
@@ -12,7 +13,7 @@ enum-known-listing : tie.Need-enum-known-listing
 enum-known-listing c = search needs
 
 print-list-requires : tie.Need-print-list-requires
-print-list-requires c κs = (search needs, listing-fits _ _ _ (c .before .before .before .before .before .before .list .ensures) (c .before .before .listing .given .1))
+print-list-requires c κs = let e = c .before .before .before .before .before .before .list .ensures in let d = c .before .before .listing .given .1 in (listing-room _ _ _ e d, (listing-head _ _ _ e d, (listing-fits _ _ _ e d, listing-in-use _ _ _ e d)))
 
 enum-known-listing-2 : tie.Need-enum-known-listing-2
 enum-known-listing-2 c = search needs

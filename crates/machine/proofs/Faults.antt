@@ -12,7 +12,7 @@ use native.Mathlib.Omega.{arith}
 use Rattle.machine.specs.Head.{HeadIn, cellCount, width, numbers}
 use Rattle.machine.specs.Cell.{TableIn}
 use Rattle.machine.specs.Machine.{Machine, initial, completed, specified}
-use Rattle.machine.specs.Fault.{faultOf, numberOf, madeFault, altered, changeOf, under, changed, own, values, FaultIn}
+use Rattle.machine.specs.Fault.{faultOf, faultNumber, madeFault, altered, changeOf, under, changed, own, values, FaultIn}
 use Rattle.machine.specs.declared.head.Head.{Head}
 use Rattle.machine.specs.declared.cell.Move.{Move}
 use Rattle.machine.specs.declared.fault.Change.{Change}
@@ -24,12 +24,12 @@ use Rattle.machine.proofs.Numbers.{number-cell}
 use Rattle.machine.proofs.Moves.{completed-in}
 
 -- what a number stands for has that number: "f = c × (n + m) + j"
-pub fault-number : (h : Head) (f : ℕ) → numberOf h (faultOf h f) ≡ f
-unfolding numberOf faultOf
+pub fault-number : (h : Head) (f : ℕ) → faultNumber h (faultOf h f) ≡ f
+unfolding faultNumber faultOf
 fault-number h f = go (ltb (f % width h) (h .outputs)) refl
   where
     go : (b : Bool) → ltb (f % width h) (h .outputs) ≡ b
-        → numberOf h (cond b (record { cell = f / width h; kind = Output; value = f % width h }) (record { cell = f / width h; kind = Transfer; value = f % width h - h .outputs })) ≡ f
+        → faultNumber h (cond b (record { cell = f / width h; kind = Output; value = f % width h }) (record { cell = f / width h; kind = Transfer; value = f % width h - h .outputs })) ≡ f
     go true e = div-add-mod' f (width h)
     go false e =
         let l = ltb-false (f % width h) (h .outputs) e in

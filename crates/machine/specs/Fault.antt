@@ -22,13 +22,14 @@ faultOf h f =
     (record { cell = f / width h; kind = Output; value = f % width h })
     (record { cell = f / width h; kind = Transfer; value = f % width h - h .outputs })
 
--- the number of a fault: c × (n + m) + j, where j is an output's value, and m more than a transfer's
-abbrev pub placeOf : Head → Kind → ℕ → ℕ
-placeOf h Output v = v
-placeOf h Transfer v = h .outputs + v
+-- the j of a kind and a value: below m an output's, from m on a transfer's
+abbrev pub ofKind : Head → Kind → ℕ → ℕ
+ofKind h Output v = v
+ofKind h Transfer v = h .outputs + v
 
-unfoldable pub numberOf : Head → Fault → ℕ
-numberOf h x = x .cell * width h + placeOf h (x .kind) (x .value)
+-- the number of a fault: c × (n + m) + j
+unfoldable pub faultNumber : Head → Fault → ℕ
+faultNumber h x = x .cell * width h + ofKind h (x .kind) (x .value)
 
 -- the cell of a number
 unfoldable pub cellOf : Head → ℕ → ℕ

@@ -79,7 +79,7 @@ module _ (file : List ℕ) where
       rw (le-ltb (length file) cellsAt (omega arith), n .good, eq-eqb (length file - restAt) (3 + 2 * cellCount (headIn file)) (omega (arith, ap cellCount (n .same))))
 
   -- the part from the cells on is the cells,
-  cells-part : take (length file - cellsAt) (drop cellsAt file) ≡ cellsIn file
+  pub cells-part : take (length file - cellsAt) (drop cellsAt file) ≡ cellsIn file
   cells-part = take-all (length file - cellsAt) (cellsIn file) (simp length-drop (omega arith))
 
   -- so there is room for them

@@ -9,8 +9,7 @@ use borrow.Author.Tests.{not-true, not-false, le-leb, lt-leb}
 use native.Mathlib.Nat.{sub-zero}
 use native.Mathlib.Omega.{arith}
 use lib.Dec.{leb}
-use lib.ListN.{length, getD, take, drop, length-drop}
-use lib.Seq.{take-all}
+use lib.ListN.{length, getD, take, drop}
 use Rattle.shapes.specs.Keep.{every}
 use Rattle.shapes.specs.Refusals.{when, ruling, fine, refused}
 use Rattle.shapes.proofs.Keep.{bit-told}
@@ -30,7 +29,7 @@ use Rattle.house.specs.declared.refusal.Refusal.{Refusal}
 use Rattle.house.specs.declared.refusal.Refusal.the-variants.{Number}
 use Rattle.house.specs.declared.table.TableFile as TableFile-type
 use Rattle.house.specs.declared.cases.RecordFile as RecordFile-type
-use Rattle.house.proofs.Tables.{table-known, table-taken, table-refused}
+use Rattle.house.proofs.Tables.{cells-part, table-known, table-taken, table-refused}
 use Rattle.house.proofs.Records.{rules-refuse, rules-pass}
 use Rattle.house.proofs.Places.{place-next}
 use Rattle.house.proofs.Against.{next-case, case-known}
@@ -89,14 +88,10 @@ module _ (h : Head) (cells : List ℕ) (number : ℕ) (file : List ℕ) (count :
   unfolding casesFrom every
   trying-ends i at k l = let e : count - i ≡ 0 = omega arith in sym (rw e at (k .same))
 
--- the cells that are lent of a table file are all that it holds
-pub cells-lent : (table : List ℕ) → take (length table - cellsAt) (drop cellsAt table) ≡ cellsIn table
-cells-lent table = take-all (length table - cellsAt) (cellsIn table) (simp length-drop (omega arith))
-
--- so they are a table's where one was read
+-- the cells that are lent of a table file are a table's where one was read
 pub table-lent : (table : List ℕ) (h : Head) → tableRead table ≡ TableFile-type.the-variants.Table h
     → TableIn h (take (length table - cellsAt) (drop cellsAt table))
-table-lent table h e = rw (cells-lent table) (table-known table h e .0)
+table-lent table h e = rw (cells-part table) (table-known table h e .0)
 
 module _ (table file : List ℕ) (number : ℕ) where
   -- the table's refusal is the answer,
@@ -139,5 +134,5 @@ module _ (table file : List ℕ) (number : ℕ) where
             → boolByte b ≡ judgement table file number
         unfolding judgement
         judged-done l b eb =
-            let t : b ≡ explainsAll (headIn table) (cellsIn table) (casesIn file) number = eb ∙ rw (cells-lent table, table-taken table h e .1) in
+            let t : b ≡ explainsAll (headIn table) (cellsIn table) (casesIn file) number = eb ∙ rw (cells-part table, table-taken table h e .1) in
             rw (cases-decide, ruling-join-fine (casesRules h (casesIn file)) _ s, ruling-past Number [] (lt-leb _ _ l), ruling-end {R = Refusal}) (bit-told t .0)

@@ -1,7 +1,8 @@
 /* The judge: does the board's table, with one change, give every output that was seen?
  *
- * The function stands in target/staticlib/libjudge.a, which `rt staticlib judge` writes: x86-64 code that needs no library. What is said
- * here is proved of it (crates/judge; docs/READING.md tells where).
+ * The function stands in target/staticlib/libjudge.a, which `rt staticlib judge` writes: x86-64 code that needs no library. Proved of its source
+ * (crates/judge; docs/READING.md tells where) are its answer for any bytes, lengths and number, that it reads nothing outside the two slices,
+ * and that it ends. That this header declares it rightly, and that NULL with length 0 works, is tested (tests/harness).
  */
 #ifndef JUDGE_H
 #define JUDGE_H
@@ -40,8 +41,8 @@ extern "C" {
  * LENGTH and VERSION do not tell which of the two files they are about. A record of no case is reproduced by every number.
  *
  * The caller sees to it that each pointer leads to as many bytes as its length says, and that nobody writes to them during the call. A
- * pointer may be NULL where its length is 0, and the two may lead to the same bytes. Nothing is written, nothing is kept from one call to the
- * next, and no memory is allocated, so calls may be made from several threads at once. Every call ends. */
+ * pointer may be NULL where its length is 0, and the two may lead to the same bytes. The function takes both slices to read only, has no state of
+ * its own and allocates nothing, so calls may be made from several threads at once. */
 uint32_t judge(const uint8_t *table, size_t table_length, const uint8_t *record, size_t record_length, uint32_t number);
 
 #ifdef __cplusplus

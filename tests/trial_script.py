@@ -380,6 +380,34 @@ audit()
 poke(9000, 1)
 tally(8400, 1)
 summed(memory(session_of(FIVE, []), [0] * TALLIES))
+# and a case that cannot be taken away. P8 makes all 96 tallies 1; case 2 seen 0 executes cell 2 alone, once, so that only its three wrong
+# outputs, numbers 17 to 19, miss it and have 2.
+ONE_STEP = ([2], [0])
+add(*P8, "OK 0")
+add(*ONE_STEP, "OK 1")
+TWO_HELD = [1] * 17 + [2] * 3 + [1] * 76
+audit()
+
+
+def cannot_be_taken(number, value):
+    """With such a tally of a number the second case is neither withdrawn nor amended, and nothing changes."""
+    untrue = TWO_HELD[:number] + [value] + TWO_HELD[number + 1:]
+    held = memory(session_of(FIVE, [P8, ONE_STEP]), untrue + [0] * (TALLIES - 96))
+    tally(number, value)
+    summed(held)
+    withdraw(1, refused(DAMAGED))
+    amend(1, *ONE_STEP, refused(DAMAGED))
+    amend(1, [3], [0], refused(STEP))
+    summed(held)
+    tally(number, TWO_HELD[number])
+
+
+cannot_be_taken(17, 0)  # its machine misses the case: the tally would be below 0
+cannot_be_taken(70, 2)  # its machine reproduces the case: the tally would stay 2, above the one case left
+# a tally may become 0, and it may stay the count of the cases left
+tally(17, 1)
+withdraw(1)
+summed(memory(session_of(FIVE, [P8]), [1] * 17 + [0] + [1] * 78 + [0] * (TALLIES - 96)))
 
 # 19. Retest: the first case with the same inputs, else the case at the position; refusals of the first, of the retest, then SLOT.
 FIRST = record([([0, 1], [1, 1]), ([2], [0])])

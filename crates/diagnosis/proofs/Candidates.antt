@@ -13,12 +13,12 @@ use Rattle.shapes.specs.Keep.{has, every}
 use Rattle.shapes.proofs.Tests.{and-true}
 use Rattle.machine.specs.Machine.{Machine, specified}
 use Rattle.machine.specs.Fault.{cellOf, changed, isFault}
-use Rattle.machine.specs.Case.{Case}
+use Rattle.machine.specs.Case.{Case, allGood}
 use Rattle.machine.specs.Run.{executed, expected, symptomsOf, reproduces}
 use Rattle.machine.specs.declared.head.Head.{Head}
 use Rattle.machine.proofs.Cases.{case-in}
 use Rattle.machine.proofs.Run.{expected-until, first-step, first-differs, reproduces-agrees}
-use Rattle.diagnosis.specs.Diagnosis.{explains, fails, explainsAll, list, someFails, conflicts, isCandidate, allGood}
+use Rattle.diagnosis.specs.Diagnosis.{explains, fails, explainsAll, list, someFails, conflicts, isCandidate}
 use Rattle.diagnosis.proofs.Lists.{listed-exactly}
 
 -- one case: the cell of a number that explains it is in its conflict set

@@ -4,7 +4,7 @@ use Prim.Native.Nat.{ℕ, zero, suc, _+_, _%_, _≤_, _<_, min}
 use mathlib.Core.Path.{_≡_, refl, sym, ap, _∙_}
 use mathlib.Core.List.{List}
 use mathlib.Core.Bool.{Bool, true, false, cond, not, _&&_}
-use native.Mathlib.Nat.{zero-add, mul-le-mul}
+use native.Mathlib.Nat.{zero-add}
 use native.Mathlib.Omega.{arith}
 use lib.Dec.{eqb}
 use lib.ListN.{length, getD, take, length-take}
@@ -14,17 +14,19 @@ use Rattle.shapes.specs.Edit.{edit}
 use Rattle.shapes.specs.Keep.{has, bit}
 use Rattle.shapes.proofs.Edit.{edit-kept, edit-ext, length-edit, edit-in, edit-out-above}
 use Rattle.machine.specs.Limits.{cellsMost}
-use Rattle.machine.specs.Head.{cellCount}
 use Rattle.machine.specs.Cell.{TableIn}
 use Rattle.machine.specs.Machine.{Machine, specified}
 use Rattle.machine.specs.Case.{Case, CaseIn, InputsIn}
-use Rattle.machine.specs.Run.{executed, marked, symptomsOf}
+use Rattle.machine.specs.Run.{executed, symptomsOf}
+use Rattle.machine.specs.Marks.{marked}
 use Rattle.machine.specs.declared.head.Head.{Head}
 use Rattle.machine.specs.declared.replay.Symptoms.{Symptoms}
+use Rattle.machine.proofs.Sound.{cells-few}
 use Rattle.machine.proofs.Cases.{case-step}
 use Rattle.machine.proofs.Marks.{length-marked, marked-at, executed-in}
 use Rattle.machine.proofs.Run.{reproduces-symptoms, first-step, prefix-executed}
-use Rattle.diagnosis.specs.Diagnosis.{explains, fails, conflicts, conflictBytes, narrowed, swept, Bits}
+use Rattle.diagnosis.specs.Diagnosis.{explains, fails, conflicts, conflictBytes}
+use Rattle.diagnosis.specs.Loops.{narrowed, swept, Bits}
 
 -- a case fails exactly if it has a symptom
 pub fails-count : (M : Machine) (c : Case) → fails M c ≡ not (eqb (symptomsOf M (c .inputs) (c .outputs) .count) 0)
@@ -49,7 +51,7 @@ a-symptom M c s e some =
 
 -- the first inputs of a case are a head's
 pub input-in : (h : Head) (is ys : List ℕ) → CaseIn h is ys → (n t : ℕ) → t < min n (length is) → getD (take n is) t 0 < h .inputs
-input-in h is ys k n t below = rw (getD-take n is t 0 (omega arith)) (case-step h is ys k t (omega arith) .0)
+input-in h is ys k n t below = rw (getD-take n is t 0 (omega arith)) (case-step h is ys k t (omega arith))
 
 inputs-in : (h : Head) (is ys : List ℕ) → CaseIn h is ys → (n : ℕ) → InputsIn h (take n is)
 inputs-in h is ys k n t below = input-in h is ys k n t (rw length-take at below)
@@ -89,16 +91,13 @@ narrows h cells t c k out bits bad =
     same : walked ≡ seen
     same = sym (prefix-executed M (c .inputs) at)
 
-    cells-few : cellCount h ≤ cellsMost
-    cells-few = mul-le-mul (t .head .few-states) (t .head .few-inputs)
-
     absent : (j : ℕ) → cellsMost ≤ j → (b : Bool) → has j walked ≡ b → b ≡ false
     absent j l true e =
         absurd
         (omega (
           arith,
           executed-in h cells t (take at (c .inputs)) (inputs-in h (c .inputs) (c .outputs) k at) j e,
-          cells-few,
+          cells-few h (t .head),
         ))
     absent j l false e = refl
 

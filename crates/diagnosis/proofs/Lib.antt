@@ -3,4 +3,3 @@ pub mod Walks
 pub mod Lists
 pub mod Candidates
 pub mod Answers
-pub mod Examples

@@ -4,7 +4,6 @@ use Prim.Native.Nat.{ℕ, _≤_, _<_}
 use mathlib.Core.Path.{_≡_, sym, _∙_}
 use mathlib.Core.List.{List}
 use mathlib.Core.Bool.{Bool, false}
-use native.Mathlib.Nat.{mul-le-mul}
 use native.Mathlib.Omega.{arith}
 use lib.ListN.{length, getD}
 use Rattle.shapes.specs.Keep.{has}
@@ -13,12 +12,15 @@ use Rattle.machine.specs.Head.{HeadIn}
 use Rattle.machine.specs.Machine.{Machine, specified}
 use Rattle.machine.specs.Fault.{faultOf, cellOf, FaultIn}
 use Rattle.machine.specs.Case.{Case}
-use Rattle.machine.specs.Run.{executed, marked}
+use Rattle.machine.specs.Run.{executed}
+use Rattle.machine.specs.Marks.{marked}
 use Rattle.machine.specs.declared.head.Head.{Head}
 use Rattle.machine.specs.declared.fault.Fault.{Fault}
+use Rattle.machine.proofs.Sound.{cells-few}
 use Rattle.machine.proofs.Marks.{length-marked, unmarked}
 use Rattle.machine.proofs.Run.{reproduces-never}
-use Rattle.diagnosis.specs.Diagnosis.{explains, fails, misses, Walked}
+use Rattle.diagnosis.specs.Diagnosis.{explains, fails, misses}
+use Rattle.diagnosis.specs.Loops.{Walked}
 
 -- a number on a cell never executed misses a case exactly if the case fails
 pub misses-never : (h : Head) (cells : List ℕ) (c : Case) (f : ℕ) → has (cellOf h f) (executed (specified h cells) (c .inputs)) ≡ false
@@ -38,7 +40,7 @@ walked M c failing out marks same room e =
 
 -- the cell of a fault is one of the 256
 pub cell-few : (h : Head) (f : Fault) → HeadIn h → FaultIn h f → f .cell < cellsMost
-cell-few h f head k = omega (arith, k .cell-in, mul-le-mul (head .few-states) (head .few-inputs))
+cell-few h f head k = omega (arith, k .cell-in, cells-few h head)
 
 -- so where a walked case has no mark at a number's cell, whether the case fails is whether the number misses it
 pub misses-unmarked : (h : Head) (cells : List ℕ) (c : Case) (failing : Bool) (marks : List ℕ) (f : ℕ) (d : Fault)

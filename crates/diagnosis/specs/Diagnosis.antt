@@ -1,17 +1,15 @@
 -- What held cases say: over a head, the cells of its table and any list of cases (document 01, "Symptoms, conflict sets, verdict", "Fault numbers").
-use Prim.Native.Nat.{ℕ, _+_, _≤_, _<_}
-use mathlib.Core.Path.{_≡_}
+use Prim.Native.Nat.{ℕ, _+_}
 use mathlib.Core.List.{List, [], _∷_}
-use mathlib.Core.Bool.{Bool, true, false, cond, not, _&&_, _||_}
-use lib.Dec.{eqb}
-use lib.ListN.{length, getD, take}
+use mathlib.Core.Bool.{Bool, true, false, not, _&&_, _||_}
+use lib.ListN.{take}
 use Rattle.shapes.specs.Edit.{edit}
 use Rattle.shapes.specs.Keep.{keepTo, has, bit, count, every, some}
 use Rattle.machine.specs.Limits.{cellsMost}
 use Rattle.machine.specs.Head.{numbers}
 use Rattle.machine.specs.Machine.{Machine, specified}
 use Rattle.machine.specs.Fault.{changed, isFault}
-use Rattle.machine.specs.Case.{Case, goodCase}
+use Rattle.machine.specs.Case.{Case}
 use Rattle.machine.specs.Run.{executed, symptomsOf, reproduces}
 use Rattle.machine.specs.declared.head.Head.{Head}
 use Rattle.diagnosis.specs.declared.Verdict.{Verdict}
@@ -66,26 +64,3 @@ conflictBytes M c out = edit (λ cell old. bit (conflicts M c cell)) 0 cellsMost
 -- "The candidates are the cells in the conflict set of every failing case; empty if no case fails."
 unfoldable pub isCandidate : Machine → List Case → ℕ → Bool
 isCandidate M cs cell = some (fails M) cs && every (λ c. not (fails M c) || conflicts M c cell) cs
-
--- what a failing case leaves of candidates: those in its conflict set
-unfoldable pub narrowed : Machine → Case → List ℕ → List ℕ
-narrowed M c out = edit (λ cell old. cond (fails M c && not (conflicts M c cell)) 0 old) 0 cellsMost out
-
--- a marked 1, which is 3, is kept as 1, and nothing else
-abbrev pub swept : ℕ → ℕ
-swept v = bit (eqb v 3)
-
--- what is known of 256 bytes of 0 or 1
-pub record Bits (out : List ℕ) : Type 0 where
-  pub room : cellsMost ≤ length out
-  pub each : (cell : ℕ) → cell < cellsMost → getD out cell 0 ≤ 1
-
--- what is known of a case that the specified machine has walked: whether it fails, and that a 0 stands only at cells never executed
-pub record Walked (M : Machine) (c : Case) (failing : Bool) (marks : List ℕ) : Type 0 where
-  pub same : failing ≡ fails M c
-  pub room : cellsMost ≤ length marks
-  pub idle : (cell : ℕ) → cell < cellsMost → getD marks cell 0 ≡ 0 → has cell (executed M (c .inputs)) ≡ false
-
--- every held case is one that can be run against the head
-unfoldable pub allGood : Head → List Case → Bool
-allGood h cs = every (λ c. goodCase h (c .inputs) (c .outputs)) cs

@@ -1,2 +1,2 @@
 pub mod Diagnosis
-pub mod Examples
+pub mod Loops

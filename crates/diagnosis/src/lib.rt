@@ -9,13 +9,13 @@ use machine::replay::symptoms_of;
 ghost use mathlib.Core.Path.{_≡_};
 ghost use Prim.Native.Nat.{_<_, _≤_};
 ghost use lib.ListN.{length};
-ghost use Rattle.shapes.specs.Edit.{edit};
 ghost use Rattle.machine.specs.Limits.{cellsMost};
 ghost use Rattle.machine.specs.Head.{numbers};
 ghost use Rattle.machine.specs.Cell.{TableIn};
 ghost use Rattle.machine.specs.Machine.{specified};
-ghost use Rattle.machine.specs.Case.{CaseIn};
-ghost use Rattle.diagnosis.specs.Diagnosis.{fails, misses, conflictBytes, narrowed, swept, Bits, Walked};
+ghost use Rattle.machine.specs.Case.{CaseIn, asCase};
+ghost use Rattle.diagnosis.specs.Diagnosis.{fails, misses, conflictBytes};
+ghost use Rattle.diagnosis.specs.Loops.{spread, narrowed, swept, sweptAll, Bits, Walked};
 
 // What the held cases say together.
 pub enum Verdict {
@@ -31,7 +31,7 @@ pub enum Verdict {
 pub fn is_failing(head: Head, cells: &[u8], inputs: &[u8], outputs: &[u8]) -> bool
     requires { ⌜ TableIn head (now cells) ⌝ }
     requires { ⌜ CaseIn head (now inputs) (now outputs) ⌝ }
-    ensures { λ r. ⌜ r ≡ fails (specified head (now (cells .entry))) (record { inputs = now (inputs .entry); outputs = now (outputs .entry) }) ⌝ }
+    ensures { λ r. ⌜ r ≡ fails (specified head (now (cells .entry))) (asCase (now (inputs .entry)) (now (outputs .entry))) ⌝ }
 {
     !is_expected(head, cells, inputs, outputs)
 }
@@ -41,7 +41,7 @@ pub fn is_missed(head: Head, cells: &[u8], number: usize, inputs: &[u8], outputs
     requires { ⌜ TableIn head (now cells) ⌝ }
     requires { ⌜ number < numbers head ⌝ }
     requires { ⌜ CaseIn head (now inputs) (now outputs) ⌝ }
-    ensures { λ r. ⌜ r ≡ misses head (now (cells .entry)) number (record { inputs = now (inputs .entry); outputs = now (outputs .entry) }) ⌝ }
+    ensures { λ r. ⌜ r ≡ misses head (now (cells .entry)) number (asCase (now (inputs .entry)) (now (outputs .entry))) ⌝ }
 {
     !is_reproduced(head, cells, number, inputs, outputs)
 }
@@ -59,8 +59,8 @@ pub fn is_missed_walked(
     requires { ⌜ TableIn head (now cells) ⌝ }
     requires { ⌜ number < numbers head ⌝ }
     requires { ⌜ CaseIn head (now inputs) (now outputs) ⌝ }
-    requires { ⌜ Walked (specified head (now cells)) (record { inputs = now inputs; outputs = now outputs }) failing (now marks) ⌝ }
-    ensures { λ r. ⌜ r ≡ misses head (now (cells .entry)) number (record { inputs = now (inputs .entry); outputs = now (outputs .entry) }) ⌝ }
+    requires { ⌜ Walked (specified head (now cells)) (asCase (now inputs) (now outputs)) failing (now marks) ⌝ }
+    ensures { λ r. ⌜ r ≡ misses head (now (cells .entry)) number (asCase (now (inputs .entry)) (now (outputs .entry))) ⌝ }
 {
     let cell = Fault::numbered(head, number).cell;
     if marks[cell] == 0 {
@@ -72,7 +72,7 @@ pub fn is_missed_walked(
 // Writes one value at all 256 cells.
 pub fn fill(out: &mut [u8], value: u8)
     requires { ⌜ cellsMost ≤ length (now out) ⌝ }
-    ensures { λ _. ⌜ now (out .exit) ≡ edit (λ cell old. value) 0 cellsMost (now (out .entry)) ⌝ }
+    ensures { λ _. ⌜ now (out .exit) ≡ spread value (now (out .entry)) ⌝ }
 {
     let mut cell = 0;
     while cell < Head::CELLS {
@@ -91,7 +91,7 @@ fn sweep_one(value: u8) -> u8
 // Keeps a 1 only where it was marked.
 fn sweep(out: &mut [u8])
     requires { ⌜ cellsMost ≤ length (now out) ⌝ }
-    ensures { λ _. ⌜ now (out .exit) ≡ edit (λ cell old. swept old) 0 cellsMost (now (out .entry)) ⌝ }
+    ensures { λ _. ⌜ now (out .exit) ≡ sweptAll (now (out .entry)) ⌝ }
 {
     let mut cell = 0;
     while cell < Head::CELLS {
@@ -105,7 +105,7 @@ pub fn narrow(head: Head, cells: &[u8], inputs: &[u8], outputs: &[u8], out: &mut
     requires { ⌜ TableIn head (now cells) ⌝ }
     requires { ⌜ CaseIn head (now inputs) (now outputs) ⌝ }
     requires { ⌜ Bits (now out) ⌝ }
-    ensures { λ _. ⌜ now (out .exit) ≡ narrowed (specified head (now (cells .entry))) (record { inputs = now (inputs .entry); outputs = now (outputs .entry) }) (now (out .entry)) ⌝ }
+    ensures { λ _. ⌜ now (out .exit) ≡ narrowed (specified head (now (cells .entry))) (asCase (now (inputs .entry)) (now (outputs .entry))) (now (out .entry)) ⌝ }
 {
     let found = symptoms_of(head, cells, inputs, outputs);
     if found.count == 0 {
@@ -121,7 +121,7 @@ pub fn conflict(head: Head, cells: &[u8], inputs: &[u8], outputs: &[u8], out: &m
     requires { ⌜ TableIn head (now cells) ⌝ }
     requires { ⌜ CaseIn head (now inputs) (now outputs) ⌝ }
     requires { ⌜ cellsMost ≤ length (now out) ⌝ }
-    ensures { λ _. ⌜ now (out .exit) ≡ conflictBytes (specified head (now (cells .entry))) (record { inputs = now (inputs .entry); outputs = now (outputs .entry) }) (now (out .entry)) ⌝ }
+    ensures { λ _. ⌜ now (out .exit) ≡ conflictBytes (specified head (now (cells .entry))) (asCase (now (inputs .entry)) (now (outputs .entry))) (now (out .entry)) ⌝ }
 {
     if !is_failing(head, cells, inputs, outputs) {
         fill(out, 0);

@@ -5,12 +5,27 @@ use house::cases::RecordFile;
 use house::cases::put_case;
 use house::cases::read_record;
 use house::file::REST;
+use house::file::VERSION;
 use house::file::put_file_head;
 use house::refusal::Refusal;
 use house::table::TableFile;
 use house::table::read_table;
 ghost use Prim.Native.Nat.{_≤_};
 ghost use lib.ListN.{length};
+
+// The bytes of a file of the largest table, of a record of one case with 64 steps or with 65, and of 64 cases with one step or 65.
+const LARGEST: usize = 6 + 2 * 256;
+
+const STEPS_64: usize = 3 + 1 + 2 * 64;
+
+const STEPS_65: usize = 3 + 1 + 2 * 65;
+
+const CASES_64: usize = 3 + 3 * 64;
+
+const CASES_65: usize = 3 + 3 * 65;
+
+// Both bytes of an undefined cell.
+const UNDEFINED: u8 = 255;
 
 fn print_word(number: usize) {
     io::write_all(1, b" ");
@@ -85,7 +100,7 @@ fn try_17_states() {
 
 // The largest table: 256 cells, and a length field that needs its high byte.
 fn try_largest() {
-    let mut file = [0u8; 518];
+    let mut file = [0u8; LARGEST];
     file[0] = 1;
     file[1] = 2;
     file[2] = 3;
@@ -115,18 +130,18 @@ fn try_head(name: &[u8], version: u8, low: u8) {
 
 // A record of one case of 64 steps.
 fn try_64_steps() {
-    let mut file = [0u8; 132];
+    let mut file = [0u8; STEPS_64];
     file[0] = 1;
-    file[2] = 129;
+    file[2] = (STEPS_64 - REST) as u8;
     file[3] = 64;
     try_record(b"length_64", &file);
 }
 
 // One of 65 steps.
 fn try_65_steps() {
-    let mut file = [0u8; 134];
+    let mut file = [0u8; STEPS_65];
     file[0] = 1;
-    file[2] = 131;
+    file[2] = (STEPS_65 - REST) as u8;
     file[3] = 65;
     try_record(b"length_65", &file);
 }
@@ -149,7 +164,7 @@ fn put_cases(out: &mut [u8])
     requires { ⌜ length (now out) ≤ 65538 ⌝ }
 {
     let step = [0u8; 1];
-    put_file_head(out, out.len() - REST);
+    put_file_head(out, VERSION, out.len() - REST);
     let mut at = REST;
     while 3 <= out.len() - at {
         at = put_case(out, at, &step, &step);
@@ -165,14 +180,14 @@ fn try_0_cases() {
 
 // One of 64 cases.
 fn try_64_cases() {
-    let mut file = [0u8; 195];
+    let mut file = [0u8; CASES_64];
     put_cases(&mut file);
     try_record(b"cases_64", &file);
 }
 
 // One of 65 cases.
 fn try_65_cases() {
-    let mut file = [0u8; 198];
+    let mut file = [0u8; CASES_65];
     put_cases(&mut file);
     try_record(b"cases_65", &file);
 }
@@ -185,8 +200,8 @@ fn try_tables() {
     try_cell(b"next_n_less_1", 1, 0);
     try_cell(b"next_n", 2, 0);
     try_cell(b"output_m", 0, 1);
-    try_cell(b"255_with_255", 255, 255);
-    try_cell(b"255_with_0", 255, 0);
+    try_cell(b"255_with_255", UNDEFINED, UNDEFINED);
+    try_cell(b"255_with_0", UNDEFINED, 0);
 }
 
 fn try_heads() {

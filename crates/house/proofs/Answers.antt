@@ -1,7 +1,7 @@
 -- Each public function's contract allows one answer only, said of the contract that the check generates.
 -- Assumes nothing.
 use mathlib.Core.Path.{refl, sym, _∙_}
-use Rattle.shapes.specs.OneAnswer.{OneAnswer, OneReading}
+use Rattle.shapes.specs.OneAnswer.{OneAnswer}
 use Rattle.house.proofs.refusal.Refusal.number.Kinds as refusal-number-kinds
 use Rattle.house.proofs.refusal.Refusal.number.Reads as refusal-number-reads
 use Rattle.house.proofs.refusal.Refusal.carried.Kinds as refusal-carried-kinds
@@ -14,12 +14,6 @@ use Rattle.house.proofs.table.read_table.Kinds as read-table-kinds
 use Rattle.house.proofs.table.read_table.Reads as read-table-reads
 use Rattle.house.proofs.table.put_table_head.Kinds as put-table-head-kinds
 use Rattle.house.proofs.table.put_table_head.Reads as put-table-head-reads
-use Rattle.house.proofs.table.write_table.Kinds as write-table-kinds
-use Rattle.house.proofs.table.write_table.Reads as write-table-reads
-use Rattle.house.proofs.cases.Cursor.start.Kinds as cursor-start-kinds
-use Rattle.house.proofs.cases.Cursor.start.Reads as cursor-start-reads
-use Rattle.house.proofs.cases.Cursor.step.Kinds as cursor-step-kinds
-use Rattle.house.proofs.cases.Cursor.step.Reads as cursor-step-reads
 use Rattle.house.proofs.cases.read_record.Kinds as read-record-kinds
 use Rattle.house.proofs.cases.read_record.Reads as read-record-reads
 use Rattle.house.proofs.cases.put_case.Kinds as put-case-kinds
@@ -28,10 +22,6 @@ use Rattle.house.proofs.cases.check_case.Kinds as check-case-kinds
 use Rattle.house.proofs.cases.check_case.Reads as check-case-reads
 use Rattle.house.proofs.cases.check_cases.Kinds as check-cases-kinds
 use Rattle.house.proofs.cases.check_cases.Reads as check-cases-reads
-use Rattle.house.proofs.retest.pick.Kinds as pick-kinds
-use Rattle.house.proofs.retest.pick.Reads as pick-reads
-use Rattle.house.proofs.retest.pick_refusal.Kinds as pick-refusal-kinds
-use Rattle.house.proofs.retest.pick_refusal.Reads as pick-refusal-reads
 
 refusal-number-one : OneAnswer refusal-number-kinds.ps refusal-number-kinds.r refusal-number-reads.Post
 refusal-number-one κs a z z′ ws ws′ p q = (p ∙ sym q, refl)
@@ -51,15 +41,6 @@ read-table-one κs a z z′ ws ws′ p q = (p ∙ sym q, refl)
 put-table-head-one : OneAnswer put-table-head-kinds.ps put-table-head-kinds.r put-table-head-reads.Post
 put-table-head-one κs a z z′ ws ws′ p q = (refl, λ i. ((p ∙ sym q) i, ws .1))
 
-write-table-one : OneAnswer write-table-kinds.ps write-table-kinds.r write-table-reads.Post
-write-table-one κs a z z′ ws ws′ p q = (p .0 ∙ sym (q .0), λ i. ((p .1 ∙ sym (q .1)) i, ws .1))
-
-cursor-start-one : OneAnswer cursor-start-kinds.ps cursor-start-kinds.r cursor-start-reads.Post
-cursor-start-one κs a z z′ ws ws′ p q = ((λ i. record { at = (p ∙ sym q) i }), refl)
-
-cursor-step-one : OneAnswer cursor-step-kinds.ps cursor-step-kinds.r cursor-step-reads.Post
-cursor-step-one κs a z z′ ws ws′ p q = (p ∙ sym q, refl)
-
 read-record-one : OneAnswer read-record-kinds.ps read-record-kinds.r read-record-reads.Post
 read-record-one κs a z z′ ws ws′ p q = (p ∙ sym q, refl)
 
@@ -68,13 +49,6 @@ put-case-one κs a z z′ ws ws′ p q = (p .0 ∙ sym (q .0), λ i. ((p .1 ∙ 
 
 check-case-one : OneAnswer check-case-kinds.ps check-case-kinds.r check-case-reads.Post
 check-case-one κs a z z′ ws ws′ p q = (p ∙ sym q, refl)
-
--- the part handed back: what is read through it
-pick-one : OneReading pick-kinds.ps pick-kinds.r (λ κs z. z .now) pick-reads.Post
-pick-one κs a z z′ ws ws′ p q = (p ∙ sym q, refl)
-
-pick-refusal-one : OneAnswer pick-refusal-kinds.ps pick-refusal-kinds.r pick-refusal-reads.Post
-pick-refusal-one κs a z z′ ws ws′ p q = (p ∙ sym q, refl)
 
 check-cases-one : OneAnswer check-cases-kinds.ps check-cases-kinds.r check-cases-reads.Post
 check-cases-one κs a z z′ ws ws′ p q = (p ∙ sym q, refl)

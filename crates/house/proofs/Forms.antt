@@ -10,7 +10,7 @@ use Rattle.shapes.specs.Refusals.{Ruling, fine, refused, ruling}
 use Rattle.shapes.proofs.Refusals.{fine-when}
 use Rattle.shapes.proofs.Edit.{drop-three}
 use Rattle.house.specs.Bytes.{Bytes}
-use Rattle.house.specs.File.{version, restAt, twoBytes, fileRules, fileHead, fileOf}
+use Rattle.house.specs.File.{restAt, twoBytes, fileRules, fileHead, fileOf}
 use Rattle.house.specs.Refusal.{checked}
 use Rattle.house.specs.declared.refusal.Checked.the-variants.{Fine, Refused}
 use Rattle.house.specs.declared.refusal.Refusal.{Refusal}
@@ -26,29 +26,29 @@ checked-refused fine e = cc
 checked-refused (refused q) e = cc
 
 -- a file that is not refused has the version and the length of the rest where they belong
-pub file-known : (file : List ℕ) → ruling (fileRules file) ≡ fine
-    → (restAt ≤ length file) × (getD file 0 0 ≡ version) × (twoBytes file 1 ≡ length file - restAt)
+pub file-known : (v : ℕ) (file : List ℕ) → ruling (fileRules v file) ≡ fine
+    → (restAt ≤ length file) × (getD file 0 0 ≡ v) × (twoBytes file 1 ≡ length file - restAt)
 unfolding fileRules
-file-known file e =
-    let a = fine-when (fileRules file) .0 e in
+file-known v file e =
+    let a = fine-when (fileRules v file) .0 e in
     (ltb-false _ _ (a .0), eqb-true _ _ (not-false _ (a .1 .0)), eqb-true _ _ (not-false _ (a .1 .1 .0)))
 
 -- and a file that has them there is not refused
-pub file-fine : (file : List ℕ) → restAt ≤ length file → getD file 0 0 ≡ version → twoBytes file 1 ≡ length file - restAt
-    → ruling (fileRules file) ≡ fine
+pub file-fine : (v : ℕ) (file : List ℕ) → restAt ≤ length file → getD file 0 0 ≡ v → twoBytes file 1 ≡ length file - restAt
+    → ruling (fileRules v file) ≡ fine
 unfolding ruling fileRules
-file-fine file l v n = rw (le-ltb _ _ l, v, n, eq-eqb (length file - restAt) _ refl)
+file-fine v file l e n = rw (le-ltb _ _ l, e, eq-eqb v v refl, n, eq-eqb (length file - restAt) _ refl)
 
 -- a file made of a rest is not refused
-pub file-of-fine : (rest : List ℕ) → ruling (fileRules (fileOf rest)) ≡ fine
+pub file-of-fine : (v : ℕ) (rest : List ℕ) → ruling (fileRules v (fileOf v rest)) ≡ fine
 unfolding fileOf fileHead
-file-of-fine rest = file-fine (fileOf rest) (omega arith) refl (omega arith)
+file-of-fine v rest = file-fine v (fileOf v rest) (omega arith) refl (omega arith)
 
 -- a file of bytes that is not refused is the file made of its rest
-pub file-of-rest : (file : List ℕ) → Bytes file → ruling (fileRules file) ≡ fine → fileOf (drop restAt file) ≡ file
+pub file-of-rest : (v : ℕ) (file : List ℕ) → Bytes file → ruling (fileRules v file) ≡ fine → fileOf v (drop restAt file) ≡ file
 unfolding fileOf fileHead
-file-of-rest file b e =
-    let k = file-known file e in
+file-of-rest v file b e =
+    let k = file-known v file e in
     let low = b 2 (k .0) in
     let q : twoBytes file 1 / 256 ≡ getD file 1 0 = omega arith in
     let r : twoBytes file 1 % 256 ≡ getD file 2 0 = omega arith in

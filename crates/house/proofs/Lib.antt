@@ -2,6 +2,5 @@ pub mod Forms
 pub mod Tables
 pub mod Records
 pub mod Places
-pub mod Retests
 pub mod Against
 pub mod Answers

@@ -12,7 +12,7 @@ use native.Mathlib.Numerals.{add-one}
 use native.Mathlib.Omega.{arith}
 use Rattle.shapes.specs.Refusals.{ruling, fine}
 use Rattle.house.specs.Cases.{caseFits, caseEnd, countFrom, countIn, countOf, recordRules}
-use Rattle.house.specs.Retest.{placeOf}
+use Rattle.house.specs.Walk.{placeOf}
 use Rattle.house.specs.declared.cases.Counted.the-variants.{Cases}
 use Rattle.house.proofs.Forms.{file-known}
 use Rattle.house.proofs.Records.{case-fits, counted-last, counted-next, count-bounds, record-sound}
@@ -68,7 +68,7 @@ module _ (file : List ℕ) (ok : ruling (recordRules file) ≡ fine) where
   -- each place up to the count is in the file
   place-low : (i : ℕ) → i ≤ countOf (countIn file) → placeOf file i ≤ length file
   unfolding placeOf
-  place-low zero h = file-known file (record-sound file ok .0) .0
+  place-low zero h = file-known _ file (record-sound file ok .0) .0
   place-low (suc i) h = place-ends i h
 
   -- and the place after the last case is its end

@@ -18,7 +18,7 @@ use Rattle.shapes.specs.Refusals.{Ruling, fine, refused, ruling, AllFalse, Refu
 use Rattle.shapes.proofs.Refusals.{ruling-join-refused, ruling-join-fine, ruling-joined, refused-when, fine-when}
 use Rattle.shapes.proofs.Tests.{and-true}
 use Rattle.machine.specs.Limits.{stepsMost}
-use Rattle.house.specs.File.{restAt, fileRules, fileHead, fileOf}
+use Rattle.house.specs.File.{version, restAt, fileRules, fileHead, fileOf}
 use Rattle.house.specs.Bytes.{Bytes}
 use Rattle.machine.specs.Case.{Case}
 use Rattle.house.specs.Cases.{caseBytes, restOf, recordFile, Recordable, AllRecordable, caseAt, casesFrom, casesIn, casesMost, stepsAt, caseEnd, caseFits, countFrom, countIn, isBroken, countOf, recordRules, recordOr, recordRead}
@@ -91,19 +91,19 @@ case-written out one two at c d e =
 
 module _ (file : List ℕ) where
   -- a file that the rules for every file refuse is refused so
-  pub read-refused : {r : Refusal} → ruling (fileRules file) ≡ refused r → recordRead file ≡ Refused r
+  pub read-refused : {r : Refusal} → ruling (fileRules version file) ≡ refused r → recordRead file ≡ Refused r
   unfolding recordRead recordRules
-  read-refused e = rw (ruling-join-refused (fileRules file) _ _ e)
+  read-refused e = rw (ruling-join-refused (fileRules version file) _ _ e)
 
   -- a file that those let pass is refused where its cases are broken,
-  pub read-broken : ruling (fileRules file) ≡ fine → countIn file ≡ Broken → recordRead file ≡ Refused Refusal-type.the-variants.Record
+  pub read-broken : ruling (fileRules version file) ≡ fine → countIn file ≡ Broken → recordRead file ≡ Refused Refusal-type.the-variants.Record
   unfolding recordRead recordRules ruling
-  read-broken e d = rw (ruling-join-fine (fileRules file) _ e, d)
+  read-broken e d = rw (ruling-join-fine (fileRules version file) _ e, d)
 
   -- else it is a record, with the cases counted
-  pub read-counted : {n : ℕ} → ruling (fileRules file) ≡ fine → countIn file ≡ Cases n → recordRead file ≡ Record n
+  pub read-counted : {n : ℕ} → ruling (fileRules version file) ≡ fine → countIn file ≡ Cases n → recordRead file ≡ Record n
   unfolding recordRead recordRules ruling
-  read-counted e d = rw (ruling-join-fine (fileRules file) _ e, d)
+  read-counted e d = rw (ruling-join-fine (fileRules version file) _ e, d)
 
 -- an answer that refuses says what the rules refuse with,
 or-refused : (v : Ruling Refusal) (m : ℕ) {r : Refusal} → recordOr v m ≡ Refused r → v ≡ refused r
@@ -139,9 +139,9 @@ module _ (file : List ℕ) where
   record-taken n e = let t = rules-pass e in (fine-when (recordRules file) .0 (t .0), t .1)
 
   -- a record that its rules do not refuse is a file that is not refused, and its cases are counted
-  pub record-sound : ruling (recordRules file) ≡ fine → (ruling (fileRules file) ≡ fine) × (countIn file ≡ Cases (countOf (countIn file)))
+  pub record-sound : ruling (recordRules file) ≡ fine → (ruling (fileRules version file) ≡ fine) × (countIn file ≡ Cases (countOf (countIn file)))
   unfolding recordRules
-  record-sound e = let j = ruling-joined (fileRules file) _ e in (j .0, go (countIn file) (fine-when _ .0 (j .1) .0))
+  record-sound e = let j = ruling-joined (fileRules version file) _ e in (j .0, go (countIn file) (fine-when _ .0 (j .1) .0))
     where
       go : (c : Counted) → isBroken c ≡ false → c ≡ Cases (countOf c)
       go (Cases n) e = refl
@@ -184,13 +184,14 @@ count-bounds file (suc left) at n m e = go (counted-next file left at n m e) (co
     go (inl k) rest = omega arith
     go (inr k) rest = let r = rest (k .1) in omega arith
 
+-- a record that its rules do not refuse has at most 64 cases
+pub record-few : (file : List ℕ) → ruling (recordRules file) ≡ fine → countOf (countIn file) ≤ casesMost
+unfolding countIn
+record-few file e = omega (arith, count-bounds file casesMost restAt 0 (countOf (countIn file)) (record-sound file e .1))
+
 -- a record that is taken has the count of cases that is answered, and they are at most 64
 pub record-count : (file : List ℕ) (n : ℕ) → recordRead file ≡ Record n → (countIn file ≡ Cases n) × (n ≤ casesMost)
-unfolding countIn
-record-count file n e =
-    let t = rules-pass file e in
-    let c : countIn file ≡ Cases n = rw (t .1) (record-sound file (t .0) .1) in
-    (c, omega (arith, count-bounds file casesMost restAt 0 n c))
+record-count file n e = let t = rules-pass file e in rw (t .1) (record-sound file (t .0) .1, record-few file (t .0))
 
 -- so many cases from a place on are so many,
 cases-length : (file : List ℕ) (n at : ℕ) → length (casesFrom file n at) ≡ n
@@ -279,10 +280,10 @@ pub record-reads-back : (cs : List Case) → length cs ≤ casesMost → AllReco
     → (recordRead (recordFile cs) ≡ Record (length cs)) × (casesIn (recordFile cs) ≡ cs)
 unfolding recordFile casesIn countIn fileOf fileHead
 record-reads-back cs few ok =
-    (read-counted (recordFile cs) (file-of-fine (restOf cs)) count, rw count (cases-written cs (fileHead (length (restOf cs))) ok))
+    (read-counted (recordFile cs) (file-of-fine version (restOf cs)) count, rw count (cases-written cs (fileHead version (length (restOf cs))) ok))
   where
     count : countIn (recordFile cs) ≡ Cases (length cs)
-    count = rw zero-add at (count-written cs (fileHead (length (restOf cs))) casesMost 0 ok few)
+    count = rw zero-add at (count-written cs (fileHead version (length (restOf cs))) casesMost 0 ok few)
 
 -- two parts of a list, one right after the other, and what comes after them are what comes from the first part on
 two-parts : (l : List ℕ) (at n : ℕ) → (take n (drop at l) ++ take n (drop (at + n) l)) ++ drop (at + 2 * n) l ≡ drop at l
@@ -308,7 +309,7 @@ module _ (file : List ℕ) (at : ℕ) (fits : caseFits file at ≡ true) where
       record { some-steps = rw inputs-there (f .0); few-steps = rw inputs-there (f .1 .0); even = outputs-there ∙ sym inputs-there }
 
   -- .. and its bytes and what stands after it are what stands from its place on
-  case-there : caseBytes (caseAt file at) ++ drop (caseEnd file at) file ≡ drop at file
+  pub case-there : caseBytes (caseAt file at) ++ drop (caseEnd file at) file ≡ drop at file
   unfolding caseBytes caseAt
   case-there =
       let f = case-fits file at fits in
@@ -347,11 +348,11 @@ cases-stand file (suc left) at n m e = go (counted-next file left at n m e) (cas
 
 -- every record that is taken is the writing of its cases, and they are such as a record can hold
 pub record-writes-back : (file : List ℕ) (n : ℕ) → Bytes file → recordRead file ≡ Record n
-    → (recordFile (casesIn file) ≡ file) × AllRecordable (casesIn file)
-unfolding recordFile casesIn countIn
+    → (fileOf version (restOf (casesIn file)) ≡ file) × AllRecordable (casesIn file)
+unfolding casesIn countIn
 record-writes-back file n bytes e =
     let c = record-count file n e .0 in
     let s = cases-stand file casesMost restAt 0 n c in
     let h = rw sub-zero at s in
     let f = record-sound file (rules-pass file e .0) .0 in
-    rw c (rw (h .0) (file-of-rest file bytes f), h .1)
+    rw c (rw (h .0) (file-of-rest version file bytes f), h .1)

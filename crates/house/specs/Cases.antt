@@ -10,10 +10,10 @@ use Rattle.machine.specs.Limits.{stepsMost}
 use Rattle.machine.specs.Head.{within}
 use Rattle.machine.specs.Case.{Case, goodCase}
 use Rattle.machine.specs.declared.head.Head.{Head}
-use Rattle.house.specs.File.{restAt, fileRules, fileOf}
+use Rattle.house.specs.File.{version, restAt, fileRules, fileOf}
 use Rattle.house.specs.declared.refusal.Refusal.{Refusal}
 use Rattle.house.specs.declared.refusal.Refusal.the-variants.{Step, Record}
-use Rattle.house.specs.declared.cases.Step as Step-type
+use Rattle.house.specs.declared.cases.About.{About}
 use Rattle.house.specs.declared.cases.Counted.{Counted}
 use Rattle.house.specs.declared.cases.Counted.the-variants.{Cases, Broken}
 use Rattle.house.specs.declared.cases.RecordFile as RecordFile-type
@@ -33,7 +33,7 @@ restOf (c ∷ cs) = caseBytes c ++ restOf cs
 
 -- the record of cases, as a file
 unfoldable pub recordFile : List Case → List ℕ
-recordFile cs = fileOf (restOf cs)
+recordFile cs = fileOf version (restOf cs)
 
 -- a case that a record can hold: 1 to 64 steps, as many outputs as inputs
 pub record Recordable (c : Case) : Type 0 where
@@ -63,14 +63,6 @@ unfoldable pub caseAt : List ℕ → ℕ → Case
 caseAt file at =
     record { inputs = take (stepsAt file at) (drop (at + 1) file); outputs = take (stepsAt file at) (drop (at + 1 + stepsAt file at) file) }
 
--- what stands at a place: a case, nothing more, or no case
-unfoldable pub stepAt : List ℕ → ℕ → Step-type.Step
-stepAt file at =
-    cond (leb (length file) at) Step-type.the-variants.End
-    (cond (caseFits file at)
-    (Step-type.the-variants.Case (at + 1) (stepsAt file at) (record { at = caseEnd file at }))
-    Step-type.the-variants.Broken)
-
 -- how many cases stand from a place to the end, n before it and at most `left` more; broken where a case does not fit or more are left
 unfoldable pub countFrom : List ℕ → ℕ → ℕ → ℕ → Counted
 countFrom file zero at n = cond (leb (length file) at) (Cases n) Broken
@@ -94,7 +86,7 @@ countOf Broken = 0
 
 -- the refusals of a record file, in order
 unfoldable pub recordRules : List ℕ → List (Rule Refusal)
-recordRules file = fileRules file ++ (when (isBroken (countIn file)) Record ∷ [])
+recordRules file = fileRules version file ++ (when (isBroken (countIn file)) Record ∷ [])
 
 -- the count of cases where no rule refuses, else the refusal
 abbrev pub recordOr : Ruling Refusal → ℕ → RecordFile-type.RecordFile
@@ -114,11 +106,19 @@ casesFrom file (suc n) at = caseAt file at ∷ casesFrom file n (caseEnd file at
 unfoldable pub casesIn : List ℕ → List Case
 casesIn file = casesFrom file (countOf (countIn file)) restAt
 
--- what is wrong with a case against a head: STEP
-unfoldable pub caseRules : Head → Case → List (Rule Refusal)
-caseRules h c = when (not (goodCase h (c .inputs) (c .outputs))) Step ∷ []
+-- a case handed over alone, and the first of a record
+abbrev pub alone : About
+alone = record { position = 0 }
 
--- what is wrong with the first of some cases that has a fault
-unfoldable pub casesRules : Head → List Case → List (Rule Refusal)
-casesRules h [] = []
-casesRules h (c ∷ cs) = caseRules h c ++ casesRules h cs
+-- the case after one in a record
+abbrev pub nextAbout : About → About
+nextAbout a = record { position = a .position + 1 }
+
+-- what is wrong with a case against a head: STEP, which reads nothing of what is said about the case
+unfoldable pub caseRules : Head → About → Case → List (Rule Refusal)
+caseRules h a c = when (not (goodCase h (c .inputs) (c .outputs))) Step ∷ []
+
+-- what is wrong with the first of some cases that has a fault, where the first of them is the one that this is said about
+unfoldable pub casesRules : Head → About → List Case → List (Rule Refusal)
+casesRules h a [] = []
+casesRules h a (c ∷ cs) = caseRules h a c ++ casesRules h (nextAbout a) cs

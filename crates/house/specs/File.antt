@@ -8,6 +8,7 @@ use Rattle.shapes.specs.Refusals.{Rule, when}
 use Rattle.house.specs.declared.refusal.Refusal.{Refusal}
 use Rattle.house.specs.declared.refusal.Refusal.the-variants.{Version, Length}
 
+-- the version of both files
 abbrev pub version : ℕ
 version = 1
 
@@ -19,17 +20,17 @@ restAt = 3
 abbrev pub twoBytes : List ℕ → ℕ → ℕ
 twoBytes file at = getD file at 0 * 256 + getD file (at + 1) 0
 
--- the order for files: "LENGTH for under 3 bytes, VERSION, LENGTH", then what the file holds
-unfoldable pub fileRules : List ℕ → List (Rule Refusal)
-fileRules file =
+-- the order for files of a version: "LENGTH for under 3 bytes, VERSION, LENGTH", then what the file holds
+unfoldable pub fileRules : ℕ → List ℕ → List (Rule Refusal)
+fileRules v file =
     when (ltb (length file) restAt) Length
-    ∷ when (not (eqb (getD file 0 0) version)) Version
+    ∷ when (not (eqb (getD file 0 0) v)) Version
     ∷ when (not (eqb (twoBytes file 1) (length file - restAt))) Length ∷ []
 
--- the first three bytes before a rest of so many
-unfoldable pub fileHead : ℕ → List ℕ
-fileHead n = version ∷ n / 256 ∷ n % 256 ∷ []
+-- the first three bytes of a file of a version, before a rest of so many
+unfoldable pub fileHead : ℕ → ℕ → List ℕ
+fileHead v n = v ∷ n / 256 ∷ n % 256 ∷ []
 
--- the file with a rest
-unfoldable pub fileOf : List ℕ → List ℕ
-fileOf rest = fileHead (length rest) ++ rest
+-- the file of a version with a rest
+unfoldable pub fileOf : ℕ → List ℕ → List ℕ
+fileOf v rest = fileHead v (length rest) ++ rest

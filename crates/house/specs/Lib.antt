@@ -2,5 +2,5 @@ pub mod Refusal
 pub mod File
 pub mod Table
 pub mod Cases
-pub mod Retest
+pub mod Walk
 pub mod Bytes

@@ -8,15 +8,15 @@ use Rattle.shapes.specs.Refusals.{Rule, when, Ruling, fine, refused, ruling}
 use Rattle.machine.specs.Head.{goodHead, cellCount}
 use Rattle.machine.specs.Cell.{firstBad}
 use Rattle.machine.specs.declared.head.Head.{Head}
-use Rattle.house.specs.File.{restAt, fileRules, fileHead}
+use Rattle.house.specs.File.{version, restAt, fileRules, fileHead}
 use Rattle.house.specs.declared.refusal.Refusal.{Refusal}
 use Rattle.house.specs.declared.refusal.Refusal.the-variants.{Size, Cell}
 use Rattle.house.specs.declared.table.TableFile.{TableFile}
 use Rattle.house.specs.declared.table.TableFile.the-variants.{Table, Refused}
 
 -- where the cells stand
-abbrev pub cellsAt : ℕ
-cellsAt = 6
+abbrev pub fileCellsAt : ℕ
+fileCellsAt = 6
 
 -- the head that the file names
 abbrev pub headIn : List ℕ → Head
@@ -24,11 +24,11 @@ headIn file = record { states = getD file 3 0; inputs = getD file 4 0; outputs =
 
 -- the cells that the file holds
 abbrev pub cellsIn : List ℕ → List ℕ
-cellsIn file = drop cellsAt file
+cellsIn file = drop fileCellsAt file
 
 -- SIZE: "n, k or m outside 1 to 16 or missing, or the rest isn't 3 + 2nk"
 unfoldable pub badSize : List ℕ → Bool
-badSize file = ltb (length file) cellsAt || not (goodHead (headIn file)) || not (eqb (length file - restAt) (3 + 2 * cellCount (headIn file)))
+badSize file = ltb (length file) fileCellsAt || not (goodHead (headIn file)) || not (eqb (length file - restAt) (3 + 2 * cellCount (headIn file)))
 
 -- CELL, with "the lowest such cell"
 unfoldable pub badCells : List ℕ → Bool
@@ -37,7 +37,7 @@ badCells file = ltb (firstBad (headIn file) (cellsIn file)) (cellCount (headIn f
 -- the refusals of a table file, in order
 unfoldable pub tableRules : List ℕ → List (Rule Refusal)
 tableRules file =
-    fileRules file
+    fileRules version file
     ++ (when (badSize file) Size
     ∷ when (badCells file) (Cell (firstBad (headIn file) (cellsIn file))) ∷ [])
 
@@ -52,11 +52,11 @@ tableRead file = tableOr (ruling (tableRules file)) (headIn file)
 
 -- how many bytes a table file has
 abbrev pub tableBytes : Head → ℕ
-tableBytes h = cellsAt + 2 * cellCount h
+tableBytes h = fileCellsAt + 2 * cellCount h
 
 -- what it has before its cells
 unfoldable pub tableHeadBytes : Head → List ℕ
-tableHeadBytes h = fileHead (3 + 2 * cellCount h) ++ (h .states ∷ h .inputs ∷ h .outputs ∷ [])
+tableHeadBytes h = fileHead version (3 + 2 * cellCount h) ++ (h .states ∷ h .inputs ∷ h .outputs ∷ [])
 
 -- the table as a file
 unfoldable pub tableFile : Head → List ℕ → List ℕ

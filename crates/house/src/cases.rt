@@ -1,5 +1,6 @@
 // The record file (document 01, "House files"): zero to 64 cases, each a length byte, the inputs and the observed outputs.
 use crate::file::REST;
+use crate::file::VERSION;
 use crate::file::check_file;
 use crate::refusal::Checked;
 use crate::refusal::Refusal;
@@ -15,24 +16,13 @@ ghost use lib.ListN.{length};
 ghost use Rattle.shapes.specs.Edit.{filled};
 ghost use Rattle.shapes.specs.Refusals.{ruling, fine};
 ghost use Rattle.machine.specs.Limits.{stepsMost};
+ghost use Rattle.machine.specs.Case.{asCase};
 ghost use Rattle.house.specs.Refusal.{checked};
-ghost use Rattle.house.specs.File.{restAt};
-ghost use Rattle.house.specs.Cases.{caseBytes, caseFits, countIn, recordRead, recordRules, countOf, casesIn, caseRules, casesRules, stepAt};
+ghost use Rattle.house.specs.Cases.{casesMost, caseBytes, caseFits, countIn, recordRead, recordRules, countOf, casesIn, caseRules, casesRules};
 
-// A place in a record file, between two cases.
-pub struct Cursor {
-    pub at: usize,
-}
-
-// What stands at a cursor: a case, with the place of its inputs, its steps and the cursor after it; or nothing more; or no case.
-pub enum Step {
-    Case {
-        inputs: usize,
-        steps: usize,
-        next: Cursor,
-    },
-    End,
-    Broken,
+// What is said about a case beside its steps: the position at which it stands in a record, 0 where it is handed over alone.
+pub struct About {
+    pub position: usize,
 }
 
 // How many cases a record holds, or that its cases are broken.
@@ -47,6 +37,11 @@ pub enum RecordFile {
     Refused(Refusal),
 }
 
+impl RecordFile {
+    // The most cases of a record.
+    pub const CASES: usize = 64;
+}
+
 // Whether a whole case stands at a place.
 fn is_whole(file: &[u8], at: usize) -> bool
     requires { ⌜ at < length (now file) ⌝ }
@@ -56,38 +51,6 @@ fn is_whole(file: &[u8], at: usize) -> bool
     is_within(steps, Replay::STEPS) & (2 * steps < file.len() - at)
 }
 
-impl Cursor {
-    pub const CASES: usize = 64;
-
-    // Before the first case.
-    pub fn start() -> Cursor
-        ensures { λ r. ⌜ r .at ≡ restAt ⌝ }
-    {
-        Cursor { at: REST }
-    }
-
-    // What stands at the cursor.
-    pub fn step(self, file: &[u8]) -> Step
-        ensures { λ r. ⌜ r ≡ stepAt (now (file .entry)) (self .at) ⌝ }
-    {
-        let at = self.at;
-        if file.len() <= at {
-            return Step::End;
-        }
-        if !is_whole(file, at) {
-            return Step::Broken;
-        }
-        let steps = byte(file, at);
-        Step::Case {
-            inputs: at + 1,
-            steps,
-            next: Cursor {
-                at: at + 1 + 2 * steps,
-            },
-        }
-    }
-}
-
 // How many cases stand in a record file.
 fn count_cases(file: &[u8]) -> Counted
     ensures { λ r. ⌜ r ≡ countIn (now (file .entry)) ⌝ }
@@ -95,7 +58,7 @@ fn count_cases(file: &[u8]) -> Counted
     let mut at = REST;
     let mut count = 0;
     while at < file.len() {
-        if count == Cursor::CASES {
+        if count == RecordFile::CASES {
             return Counted::Broken;
         }
         if !is_whole(file, at) {
@@ -111,7 +74,7 @@ fn count_cases(file: &[u8]) -> Counted
 pub fn read_record(file: &[u8]) -> RecordFile
     ensures { λ r. ⌜ r ≡ recordRead (now (file .entry)) ⌝ }
 {
-    let found = check_file(file);
+    let found = check_file(file, VERSION);
     if let Checked::Refused(refusal) = found {
         return RecordFile::Refused(refusal);
     }
@@ -126,7 +89,7 @@ pub fn read_record(file: &[u8]) -> RecordFile
 pub fn put_case(out: &mut [u8], at: usize, inputs: &[u8], outputs: &[u8]) -> usize
     requires { ⌜ (length (now inputs) ≤ stepsMost) × (length (now outputs) ≡ length (now inputs)) ⌝ }
     requires { ⌜ at + 1 + 2 * length (now inputs) ≤ length (now out) ⌝ }
-    ensures { λ r. ⌜ (r ≡ at + 1 + 2 * length (now (inputs .entry))) × (now (out .exit) ≡ filled (now (out .entry)) at (caseBytes (record { inputs = now (inputs .entry); outputs = now (outputs .entry) }))) ⌝ }
+    ensures { λ r. ⌜ (r ≡ at + 1 + 2 * length (now (inputs .entry))) × (now (out .exit) ≡ filled (now (out .entry)) at (caseBytes (asCase (now (inputs .entry)) (now (outputs .entry))))) ⌝ }
 {
     let steps = inputs.len();
     out[at] = steps as u8;
@@ -136,8 +99,8 @@ pub fn put_case(out: &mut [u8], at: usize, inputs: &[u8], outputs: &[u8]) -> usi
 }
 
 // What is wrong with a case against a head.
-pub fn check_case(head: Head, inputs: &[u8], outputs: &[u8]) -> Checked
-    ensures { λ r. ⌜ r ≡ checked (ruling (caseRules head (record { inputs = now (inputs .entry); outputs = now (outputs .entry) }))) ⌝ }
+pub fn check_case(head: Head, about: About, inputs: &[u8], outputs: &[u8]) -> Checked
+    ensures { λ r. ⌜ r ≡ checked (ruling (caseRules head about (asCase (now (inputs .entry)) (now (outputs .entry))))) ⌝ }
 {
     if !is_case(head, inputs, outputs) {
         return Checked::Refused(Refusal::Step);
@@ -145,22 +108,27 @@ pub fn check_case(head: Head, inputs: &[u8], outputs: &[u8]) -> Checked
     Checked::Fine
 }
 
-// What is wrong with the first case of a record that has a fault against a head.
-pub fn check_cases(head: Head, file: &[u8], count: usize) -> Checked
+// What is wrong with the first case of a record that has a fault against a head; `first` is said about the record's first case.
+pub fn check_cases(head: Head, first: About, file: &[u8], count: usize) -> Checked
+    requires { ⌜ first .position ≤ casesMost ⌝ }
     requires { ⌜ ruling (recordRules (now file)) ≡ fine ⌝ }
     requires { ⌜ count ≡ countOf (countIn (now file)) ⌝ }
-    ensures { λ r. ⌜ r ≡ checked (ruling (casesRules head (casesIn (now (file .entry))))) ⌝ }
+    ensures { λ r. ⌜ r ≡ checked (ruling (casesRules head first (casesIn (now (file .entry))))) ⌝ }
 {
+    let mut about = first;
     let mut at = REST;
     let mut i = 0;
     while i < count {
         let inputs = at + 1;
         let outputs = inputs + byte(file, at);
         let end = outputs + byte(file, at);
-        let fault = check_case(head, &file[inputs..outputs], &file[outputs..end]);
+        let fault = check_case(head, about, &file[inputs..outputs], &file[outputs..end]);
         if let Checked::Refused(refusal) = fault {
             return Checked::Refused(refusal);
         }
+        about = About {
+            position: about.position + 1,
+        };
         at = end;
         i += 1;
     }

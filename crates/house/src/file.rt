@@ -10,34 +10,39 @@ ghost use Rattle.shapes.specs.Edit.{filled};
 ghost use Rattle.house.specs.Refusal.{checked};
 ghost use Rattle.house.specs.File.{fileRules, fileHead};
 
+// The version of both files.
 pub const VERSION: usize = 1;
 
 // Where the rest begins.
 pub const REST: usize = 3;
 
-// The refusal of a file that is no house file, whatever it holds.
-pub fn check_file(file: &[u8]) -> Checked
-    ensures { λ r. ⌜ r ≡ checked (ruling (fileRules (now (file .entry)))) ⌝ }
+// What the higher of two bytes counts.
+pub const HIGHER: usize = 256;
+
+// The refusal of a file that is no house file of a version, whatever it holds.
+pub fn check_file(file: &[u8], version: usize) -> Checked
+    ensures { λ r. ⌜ r ≡ checked (ruling (fileRules version (now (file .entry)))) ⌝ }
 {
     if file.len() < REST {
         return Checked::Refused(Refusal::Length);
     }
-    if byte(file, 0) != VERSION {
+    if byte(file, 0) != version {
         return Checked::Refused(Refusal::Version);
     }
-    if byte(file, 1) * 256 + byte(file, 2) != file.len() - REST {
+    if byte(file, 1) * HIGHER + byte(file, 2) != file.len() - REST {
         return Checked::Refused(Refusal::Length);
     }
     Checked::Fine
 }
 
-// Writes the first three bytes of a file with so long a rest.
-pub fn put_file_head(out: &mut [u8], rest: usize)
+// Writes the first three bytes of a file of a version with so long a rest.
+pub fn put_file_head(out: &mut [u8], version: usize, rest: usize)
     requires { ⌜ 3 ≤ length (now out) ⌝ }
+    requires { ⌜ version < 256 ⌝ }
     requires { ⌜ rest < 65536 ⌝ }
-    ensures { λ _. ⌜ now (out .exit) ≡ filled (now (out .entry)) 0 (fileHead rest) ⌝ }
+    ensures { λ _. ⌜ now (out .exit) ≡ filled (now (out .entry)) 0 (fileHead version rest) ⌝ }
 {
-    out[0] = VERSION as u8;
-    out[1] = (rest / 256) as u8;
-    out[2] = (rest % 256) as u8;
+    out[0] = version as u8;
+    out[1] = (rest / HIGHER) as u8;
+    out[2] = (rest % HIGHER) as u8;
 }

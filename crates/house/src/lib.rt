@@ -1,4 +1,4 @@
-// The house files (document 01, "House files"): what a refusal is, the table file, the record file, and the retest of a record.
+// The house files (document 01, "House files"): what a refusal is, the table file and the record file.
 
 // Refusals, their numbers and what each carries.
 pub mod refusal;
@@ -8,5 +8,3 @@ pub mod file;
 pub mod table;
 // The record file and its cases.
 pub mod cases;
-// A case of a record, or its retest.
-pub mod retest;

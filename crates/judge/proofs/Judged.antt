@@ -13,18 +13,19 @@ use lib.ListN.{length, getD, take, drop}
 use Rattle.shapes.specs.Keep.{every}
 use Rattle.shapes.specs.Refusals.{when, ruling, fine, refused}
 use Rattle.shapes.proofs.Keep.{bit-told}
-use Rattle.shapes.proofs.Refusals.{ruling-here, ruling-past, ruling-end, ruling-join-refused, ruling-join-fine, ruling-joined, refused-when, fine-when}
+use Rattle.shapes.proofs.Refusals.{ruling-here, ruling-past, ruling-end, ruling-join-refused, ruling-join-fine, refused-when, fine-when}
+use Rattle.shapes.proofs.Tests.{and-true}
 use Rattle.machine.specs.Head.{numbers}
 use Rattle.machine.specs.Cell.{TableIn}
 use Rattle.machine.specs.Fault.{changed}
-use Rattle.machine.specs.Case.{Case, CaseIn}
+use Rattle.machine.specs.Case.{Case, goodCase, allGood, CaseIn}
 use Rattle.machine.specs.declared.head.Head.{Head}
 use Rattle.machine.proofs.Cases.{case-in}
 use Rattle.house.specs.File.{restAt}
 use Rattle.house.specs.Refusal.{numberOf}
-use Rattle.house.specs.Table.{cellsAt, cellsIn, headIn, tableRules, tableRead}
-use Rattle.house.specs.Cases.{caseEnd, caseAt, countIn, countOf, recordRules, recordRead, casesFrom, casesIn, caseRules, casesRules}
-use Rattle.house.specs.Retest.{placeOf}
+use Rattle.house.specs.Table.{fileCellsAt, cellsIn, headIn, tableRules, tableRead}
+use Rattle.house.specs.Cases.{caseEnd, caseAt, countIn, countOf, recordRules, recordRead, casesFrom, casesIn, alone, casesRules}
+use Rattle.house.specs.Walk.{placeOf}
 use Rattle.house.specs.declared.refusal.Refusal.{Refusal}
 use Rattle.house.specs.declared.refusal.Refusal.the-variants.{Number}
 use Rattle.house.specs.declared.table.TableFile as TableFile-type
@@ -32,7 +33,7 @@ use Rattle.house.specs.declared.cases.RecordFile as RecordFile-type
 use Rattle.house.proofs.Tables.{cells-part, table-known, table-taken, table-refused}
 use Rattle.house.proofs.Records.{rules-refuse, rules-pass}
 use Rattle.house.proofs.Places.{place-next}
-use Rattle.house.proofs.Against.{next-case, case-known}
+use Rattle.house.proofs.Against.{next-case}
 use Rattle.diagnosis.specs.Diagnosis.{explains, misses, fails, explainsAll}
 use Rattle.judge.specs.Judge.{judgeRules, refusedFrom, judgement}
 
@@ -40,26 +41,26 @@ use Rattle.judge.specs.Judge.{judgeRules, refusedFrom, judgement}
 pub record Trying (h : Head) (cells : List ℕ) (number : ℕ) (file : List ℕ) (count i at : ℕ) : Type 0 where
   pub inside : i ≤ count
   pub place : at ≡ placeOf file i
-  pub sound : ruling (casesRules h (casesFrom file (count - i) at)) ≡ fine
+  pub sound : allGood h (casesFrom file (count - i) at) ≡ true
   pub same : every (explains (changed h cells number)) (casesFrom file (count - i) at) ≡ explainsAll h cells (casesIn file) number
 
 module _ (h : Head) (cells : List ℕ) (number : ℕ) (file : List ℕ) (count : ℕ) where
   -- it begins so
-  pub trying-begins : count ≡ countOf (countIn file) → ruling (casesRules h (casesIn file)) ≡ fine → Trying h cells number file count 0 restAt
+  pub trying-begins : count ≡ countOf (countIn file) → allGood h (casesIn file) ≡ true → Trying h cells number file count 0 restAt
   unfolding placeOf casesIn explainsAll
   trying-begins known ok =
       record { inside = omega arith; place = refl; sound = rw (sub-zero, known) ok; same = rw (sub-zero, known) }
 
   module _ (i at : ℕ) (k : Trying h cells number file count i at) (l : i < count) (c : Case) (e : c ≡ caseAt file at) where
-    -- the rules of the next case, and of those after it
-    next-sound : (ruling (caseRules h (caseAt file at)) ≡ fine)
-        × (ruling (casesRules h (casesFrom file (count - (i + 1)) (caseEnd file at))) ≡ fine)
-    unfolding casesRules
-    next-sound = ruling-joined (caseRules h (caseAt file at)) _ (rw (next-case file count i at l) at (k .sound))
+    -- the next case can be run against the head, and so can those after it
+    next-sound : (goodCase h (caseAt file at .inputs) (caseAt file at .outputs) ≡ true)
+        × (allGood h (casesFrom file (count - (i + 1)) (caseEnd file at)) ≡ true)
+    unfolding allGood every
+    next-sound = and-true _ _ (rw (next-case file count i at l) at (k .sound))
 
-    -- the next case can be run,
+    -- what is known of the next case,
     pub trying-case : CaseIn h (c .inputs) (c .outputs)
-    trying-case = case-in h _ _ (rw e (case-known h (caseAt file at) (next-sound .0)))
+    trying-case = case-in h _ _ (rw e (next-sound .0))
 
     -- where it is missed not all are reproduced,
     pub trying-missed : misses h cells number c ≡ true → explainsAll h cells (casesIn file) number ≡ false
@@ -90,7 +91,7 @@ module _ (h : Head) (cells : List ℕ) (number : ℕ) (file : List ℕ) (count :
 
 -- the cells that are lent of a table file are a table's where one was read
 pub table-lent : (table : List ℕ) (h : Head) → tableRead table ≡ TableFile-type.the-variants.Table h
-    → TableIn h (take (length table - cellsAt) (drop cellsAt table))
+    → TableIn h (take (length table - fileCellsAt) (drop fileCellsAt table))
 table-lent table h e = rw (cells-part table) (table-known table h e .0)
 
 module _ (table file : List ℕ) (number : ℕ) where
@@ -112,27 +113,27 @@ module _ (table file : List ℕ) (number : ℕ) where
 
     module _ (n : ℕ) (d : recordRead file ≡ RecordFile-type.the-variants.Record n) where
       -- where the files have none, the cases decide and then the number
-      cases-decide : ruling (judgeRules table file number) ≡ ruling (casesRules h (casesIn file) ++ (when (leb (numbers h) number) Number ∷ []))
+      cases-decide : ruling (judgeRules table file number) ≡ ruling (casesRules h alone (casesIn file) ++ (when (leb (numbers h) number) Number ∷ []))
       unfolding judgeRules
       cases-decide =
           rw
           (ruling-join-fine (tableRules table) _ table-fine, ruling-join-fine (recordRules file) _ (rules-pass file d .0), table-taken table h e .1)
 
       -- STEP is,
-      pub judged-step : (r : Refusal) → ruling (casesRules h (casesIn file)) ≡ refused r → judgement table file number ≡ refusedFrom + numberOf r
+      pub judged-step : (r : Refusal) → ruling (casesRules h alone (casesIn file)) ≡ refused r → judgement table file number ≡ refusedFrom + numberOf r
       unfolding judgement
-      judged-step r s = rw (cases-decide, ruling-join-refused (casesRules h (casesIn file)) _ r s)
+      judged-step r s = rw (cases-decide, ruling-join-refused (casesRules h alone (casesIn file)) _ r s)
 
-      module _ (s : ruling (casesRules h (casesIn file)) ≡ fine) where
+      module _ (s : ruling (casesRules h alone (casesIn file)) ≡ fine) where
         -- then NUMBER,
         pub judged-number : numbers h ≤ number → judgement table file number ≡ refusedFrom + numberOf Number
         unfolding judgement
-        judged-number l = rw (cases-decide, ruling-join-fine (casesRules h (casesIn file)) _ s, ruling-here Number [] (le-leb _ _ l))
+        judged-number l = rw (cases-decide, ruling-join-fine (casesRules h alone (casesIn file)) _ s, ruling-here Number [] (le-leb _ _ l))
 
         -- else whether every case is reproduced, cast to a number
-        pub judged-done : number < numbers h → (b : Bool) → b ≡ explainsAll h (take (length table - cellsAt) (drop cellsAt table)) (casesIn file) number
+        pub judged-done : number < numbers h → (b : Bool) → b ≡ explainsAll h (take (length table - fileCellsAt) (drop fileCellsAt table)) (casesIn file) number
             → boolByte b ≡ judgement table file number
         unfolding judgement
         judged-done l b eb =
             let t : b ≡ explainsAll (headIn table) (cellsIn table) (casesIn file) number = eb ∙ rw (cells-part table, table-taken table h e .1) in
-            rw (cases-decide, ruling-join-fine (casesRules h (casesIn file)) _ s, ruling-past Number [] (lt-leb _ _ l), ruling-end {R = Refusal}) (bit-told t .0)
+            rw (cases-decide, ruling-join-fine (casesRules h alone (casesIn file)) _ s, ruling-past Number [] (lt-leb _ _ l), ruling-end {R = Refusal}) (bit-told t .0)

@@ -9,7 +9,7 @@ use Rattle.shapes.specs.Refusals.{Rule, when, Ruling, fine, refused, ruling}
 use Rattle.machine.specs.Head.{numbers}
 use Rattle.house.specs.Refusal.{numberOf}
 use Rattle.house.specs.Table.{headIn, cellsIn, tableRules}
-use Rattle.house.specs.Cases.{recordRules, casesIn, casesRules}
+use Rattle.house.specs.Cases.{recordRules, casesIn, alone, casesRules}
 use Rattle.house.specs.declared.refusal.Refusal.{Refusal}
 use Rattle.house.specs.declared.refusal.Refusal.the-variants.{Number}
 use Rattle.diagnosis.specs.Diagnosis.{explainsAll}
@@ -19,7 +19,7 @@ unfoldable pub judgeRules : List ℕ → List ℕ → ℕ → List (Rule Refusal
 judgeRules table file number =
     tableRules table
     ++ (recordRules file
-    ++ (casesRules (headIn table) (casesIn file)
+    ++ (casesRules (headIn table) alone (casesIn file)
     ++ (when (leb (numbers (headIn table)) number) Number ∷ [])))
 
 -- what is added to the number of a refusal

@@ -1,24 +1,27 @@
 // The judge (document 01, "The C side"): the one function that the bench harness, a C program, calls. bench/judge.h declares it.
 use diagnosis::is_missed;
+use house::cases::About;
 use house::cases::RecordFile;
 use house::cases::check_cases;
 use house::cases::read_record;
 use house::file::REST;
 use house::refusal::Checked;
 use house::refusal::Refusal;
-use house::table::CELLS;
+use house::table::FILE_CELLS_AT;
 use house::table::TableFile;
 use house::table::read_table;
 use machine::head::Head;
 use shapes::byte;
 ghost use mathlib.Core.Path.{_≡_};
+ghost use mathlib.Core.Bool.{true};
 ghost use Prim.Native.Nat.{_+_, _<_};
 ghost use Rattle.shapes.specs.Refusals.{ruling, fine};
 ghost use Rattle.machine.specs.Head.{numbers};
 ghost use Rattle.machine.specs.Cell.{TableIn};
+ghost use Rattle.machine.specs.Case.{allGood};
 ghost use Rattle.house.specs.Refusal.{numberOf};
 ghost use Rattle.house.specs.Table.{tableRead};
-ghost use Rattle.house.specs.Cases.{recordRead, recordRules, countIn, countOf, casesIn, casesRules};
+ghost use Rattle.house.specs.Cases.{recordRead, recordRules, countIn, countOf, casesIn};
 ghost use Rattle.house.specs.declared.table.TableFile.the-variants.{Table};
 ghost use Rattle.house.specs.declared.cases.RecordFile.the-variants.{Record};
 ghost use Rattle.diagnosis.specs.Diagnosis.{explainsAll};
@@ -39,7 +42,7 @@ fn is_explained(head: Head, cells: &[u8], number: usize, file: &[u8], count: usi
     requires { ⌜ TableIn head (now cells) ⌝ }
     requires { ⌜ number < numbers head ⌝ }
     requires { ⌜ (ruling (recordRules (now file)) ≡ fine) × (count ≡ countOf (countIn (now file))) ⌝ }
-    requires { ⌜ ruling (casesRules head (casesIn (now file))) ≡ fine ⌝ }
+    requires { ⌜ allGood head (casesIn (now file)) ≡ true ⌝ }
     ensures { λ r. ⌜ r ≡ explainsAll head (now (cells .entry)) (casesIn (now (file .entry))) number ⌝ }
 {
     let mut at = REST;
@@ -69,7 +72,7 @@ fn judge_cases(table: &[u8], head: Head, file: &[u8], count: usize, number: u32)
     requires { ⌜ recordRead (now file) ≡ Record count ⌝ }
     ensures { λ r. ⌜ r ≡ judgement (now (table .entry)) (now (file .entry)) number ⌝ }
 {
-    let fault = check_cases(head, file, count);
+    let fault = check_cases(head, About { position: 0 }, file, count);
     if let Checked::Refused(refusal) = fault {
         return refused(refusal);
     }
@@ -77,7 +80,7 @@ fn judge_cases(table: &[u8], head: Head, file: &[u8], count: usize, number: u32)
     if head.numbers() <= wanted {
         return refused(Refusal::Number);
     }
-    is_explained(head, &table[CELLS..], wanted, file, count) as u32
+    is_explained(head, &table[FILE_CELLS_AT..], wanted, file, count) as u32
 }
 
 // The answer for a table that was read.

@@ -18,14 +18,14 @@ use Rattle.machine.specs.Head.{HeadIn, numbers}
 use Rattle.machine.specs.declared.head.Head.{Head}
 use Rattle.house.specs.declared.refusal.Refusal.{Refusal}
 use Rattle.diagnosis.specs.declared.Verdict.{Verdict}
-use Rattle.session.specs.Layout.{sessionSize, headOf}
-use Rattle.session.specs.Form.{Formed}
-use Rattle.session.specs.Calls.{formRules}
-use Rattle.session.specs.Reads.{listOf, verdictIn, listRules, listed, listedOr, listCall}
-use Rattle.session.specs.declared.read.Listing.{Listing}
-use Rattle.session.specs.declared.read.Listing.the-variants.{Faults}
-use Rattle.session.proofs.Formed.{formed-table, table-good}
-use Rattle.session.proofs.Known.{rules-formed}
+use Rattle.memory.specs.Layout.{sessionSize, headOf}
+use Rattle.memory.specs.Form.{Formed}
+use Rattle.memory.specs.Form.{formRules}
+use Rattle.reading.specs.Reads.{listOf, verdictIn, listRules, listed, listedOr, listCall}
+use Rattle.reading.specs.declared.list.Listing.{Listing}
+use Rattle.reading.specs.declared.list.Listing.the-variants.{Faults}
+use Rattle.memory.proofs.Formed.{formed-table, table-good}
+use Rattle.memory.proofs.Known.{rules-formed}
 
 -- each number listed is in use
 list-in-use : (s t : List ℕ) (i : ℕ) → i < length (listOf s t) → getD (listOf s t) i 0 < numbers (headOf s)

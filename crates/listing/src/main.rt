@@ -1,34 +1,37 @@
 // The listing program (document 01, "The listing program"): reads a table file followed at once by a record from standard input, and
 // prints the verdict, how many faults are listed, and each of them; or the refusal.
 use diagnosis::Verdict;
+use house::file::HIGHER;
 use house::file::REST;
 use house::refusal::Answer;
 use house::refusal::Refusal;
 use machine::fault::Fault;
 use machine::fault::Kind;
 use machine::head::Head;
+use memory::layout::SESSION;
+use memory::layout::TALLIES;
+use memory::layout::head_of;
+use reading::list::Listing;
+use reading::list::list;
 use session::calls::load;
 use session::calls::start;
-use session::layout::SESSION;
-use session::layout::TALLIES;
-use session::layout::head_of;
-use session::read::Listing;
-use session::read::list;
 use shapes::byte;
 ghost use mathlib.Core.Path.{_≡_};
 ghost use Prim.Native.Nat.{ℕ, _+_, _*_, _≤_, _<_, min};
 ghost use lib.ListN.{length, getD};
 ghost use Rattle.machine.specs.Head.{HeadIn, numbers};
-ghost use Rattle.session.specs.Layout.{sessionSize, talliesSize, headOf};
+ghost use Rattle.memory.specs.Layout.{sessionSize, talliesSize, headOf};
 
 // The most bytes that an input has.
 const MOST: usize = 16384;
 
 // Room for an input and one byte more, which shows that it is too long.
-fn input_room() -> [u8; 16385]
-    ensures { λ r. ⌜ 16385 ≡ length r ⌝ }
+const ROOM: usize = MOST + 1;
+
+fn input_room() -> [u8; ROOM]
+    ensures { λ r. do ⌜ (← ⟦ROOM⟧ .entry) ≡ length r ⌝ }
 {
-    [0; 16385]
+    [0; ROOM]
 }
 
 // Room for a session.
@@ -140,7 +143,7 @@ fn table_end(input: &[u8]) -> usize
     if count < REST {
         return count;
     }
-    least(REST + byte(input, 1) * 256 + byte(input, 2), count)
+    least(REST + byte(input, 1) * HIGHER + byte(input, 2), count)
 }
 
 // Lists what a table file and the record after it come to.

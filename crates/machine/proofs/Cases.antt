@@ -1,17 +1,17 @@
 -- What is known of a case and of a head that were tested.
 -- Assumes nothing.
-use Prim.Native.Nat.{ℕ, _<_}
+use Prim.Native.Nat.{ℕ}
 use mathlib.Core.Path.{_≡_, refl}
 use mathlib.Core.List.{List}
 use mathlib.Core.Bool.{Bool, true, false, cond}
-use borrow.Author.Tests.{leb-true, leb-false, eqb-true}
-use lib.ListN.{length, getD}
+use borrow.Author.Tests.{leb-true, leb-false, eqb-true, le-leb}
+use lib.ListN.{length}
 use native.Mathlib.Omega.{arith}
 use Rattle.shapes.specs.First.{first}
 use Rattle.shapes.proofs.First.{first-before}
 use Rattle.shapes.proofs.Tests.{and-true, or-false}
-use Rattle.machine.specs.Head.{goodHead, headOf, HeadIn}
-use Rattle.machine.specs.Case.{badStep, firstBadStep, goodCase, CaseIn}
+use Rattle.machine.specs.Head.{goodHead, madeHead, HeadIn}
+use Rattle.machine.specs.Case.{badStep, firstBadStep, goodCase, CaseIn, InputsIn}
 use Rattle.machine.specs.declared.head.Head.{Head}
 use Rattle.machine.specs.declared.head.MadeHead.the-variants.{Made, Nothing}
 
@@ -33,10 +33,17 @@ head-in h e =
       few-outputs = leb-true _ _ (m .1);
     }
 
+-- and a head passes it
+pub head-good : (h : Head) → HeadIn h → goodHead h ≡ true
+unfolding goodHead
+head-good h k =
+    rw
+    (le-leb _ _ (k .some-states), le-leb _ _ (k .few-states), le-leb _ _ (k .some-inputs), le-leb _ _ (k .few-inputs), le-leb _ _ (k .some-outputs), le-leb _ _ (k .few-outputs))
+
 -- a head that was made is a head, and the three numbers are its own
-pub made-head : (n k m : ℕ) (h : Head) → headOf n k m ≡ Made h
+pub made-head : (n k m : ℕ) (h : Head) → madeHead n k m ≡ Made h
     → (goodHead (record { states = n; inputs = k; outputs = m }) ≡ true) × (h ≡ record { states = n; inputs = k; outputs = m })
-unfolding headOf
+unfolding madeHead
 made-head n k m h = go (goodHead (record { states = n; inputs = k; outputs = m }))
   where
     it : Head
@@ -47,8 +54,8 @@ made-head n k m h = go (goodHead (record { states = n; inputs = k; outputs = m }
     go false e = (cc, cc)
 
 -- three numbers that make none are out of range
-pub made-no-head : (n k m : ℕ) → headOf n k m ≡ Nothing → goodHead (record { states = n; inputs = k; outputs = m }) ≡ false
-unfolding headOf
+pub made-no-head : (n k m : ℕ) → madeHead n k m ≡ Nothing → goodHead (record { states = n; inputs = k; outputs = m }) ≡ false
+unfolding madeHead
 made-no-head n k m = go (goodHead (record { states = n; inputs = k; outputs = m }))
   where
     it : Head
@@ -72,10 +79,9 @@ case-in h is ys e =
       sound = eqb-true _ _ (a .1);
     }
 
--- at each step of a case the input is one of the head's, and so is the output
-pub case-step : (h : Head) (is ys : List ℕ) → CaseIn h is ys → (t : ℕ) → t < length is → (getD is t 0 < h .inputs) × (getD ys t 0 < h .outputs)
+-- at each step of a case the input is one of the head's
+pub case-step : (h : Head) (is ys : List ℕ) → CaseIn h is ys → InputsIn h is
 unfolding firstBadStep badStep
 case-step h is ys k t l =
     let e : first (badStep h is ys) 0 (length is) ≡ length is = k .sound in
-    let o = or-false _ _ (first-before (badStep h is ys) 0 (length is) t (omega arith) (omega arith)) in
-    (leb-false _ _ (o .0), leb-false _ _ (o .1))
+    leb-false _ _ (or-false _ _ (first-before (badStep h is ys) 0 (length is) t (omega arith) (omega arith)) .0)

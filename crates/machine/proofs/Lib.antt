@@ -1,4 +1,5 @@
 pub mod Numbers
+pub mod Sound
 pub mod Moves
 pub mod Faults
 pub mod Cases

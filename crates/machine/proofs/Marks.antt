@@ -15,7 +15,8 @@ use Rattle.machine.specs.Head.{HeadIn, cellCount}
 use Rattle.machine.specs.Cell.{TableIn}
 use Rattle.machine.specs.Machine.{Machine, initial, cellAt, specified}
 use Rattle.machine.specs.Case.{InputsIn}
-use Rattle.machine.specs.Run.{path, executed, marked}
+use Rattle.machine.specs.Run.{path, executed}
+use Rattle.machine.specs.Marks.{marked}
 use Rattle.machine.specs.declared.head.Head.{Head}
 use Rattle.machine.proofs.Numbers.{cell-below}
 use Rattle.machine.proofs.Moves.{specified-does, completed-in}

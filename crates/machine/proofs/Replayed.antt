@@ -149,7 +149,7 @@ misses h M is ys t r u l =
 pub step-asks : (h : Head) (M : Machine) (is ys : List ℕ) (t i : ℕ) (r : Replay) → CaseIn h is ys → Underway h M is ys t r → t < length is
     → i ≡ getD is t 0 → (ReplayIn h r) × ((r .step < stepsMost) × (i < h .inputs))
 step-asks h M is ys t i r k u l e =
-    (u .known, (omega (arith, u .at-step, k .few-steps), rw e (case-step h is ys k t l .0)))
+    (u .known, (omega (arith, u .at-step, k .few-steps), rw e (case-step h is ys k t l)))
 
 -- a fresh replay has met no symptom
 pub fresh-none : (r : Replay) → r ≡ fresh → r .symptoms ≡ 0

@@ -45,32 +45,20 @@ prefix-path M s [] (suc t) = refl
 prefix-path M s (i ∷ is) zero = refl
 prefix-path M s (i ∷ is) (suc t) = ap (λ (l : List ℕ). cellAt M s i ∷ l) (prefix-path M (M .does (cellAt M s i) .next) is t)
 
--- a machine with one change gives the same outputs and executes the same cells if the changed cell is never executed
-never : (M : Machine) (d : Change) (s : ℕ) (is : List ℕ) → has (d .cell) (path M s is) ≡ false
-    → (run (under M d) s is ≡ run M s is) × (path (under M d) s is ≡ path M s is)
+-- a machine with one change gives the same outputs if the changed cell is never executed
+pub run-never : (M : Machine) (d : Change) (s : ℕ) (is : List ℕ) → has (d .cell) (path M s is) ≡ false → run (under M d) s is ≡ run M s is
 unfolding run path has under
-never M d s [] h = (refl, refl)
-never M d s (i ∷ is) h =
+run-never M d s [] h = refl
+run-never M d s (i ∷ is) h =
     let c : ℕ = cellAt M s i in
     let apart : (eqb (d .cell) c ≡ false) × (has (d .cell) (path M (M .does c .next) is) ≡ false) = or-false _ _ h in
     let other : eqb c (d .cell) ≡ false = ne-eqb c (d .cell) (λ e. eqb-false (d .cell) c (apart .0) (sym e)) in
-    let rest = never M d (M .does c .next) is (apart .1) in
-    (rw other (ap (λ (l : List ℕ). M .does c .output ∷ l) (rest .0)), rw other (ap (λ (l : List ℕ). c ∷ l) (rest .1)))
+    rw other (ap (λ (l : List ℕ). M .does c .output ∷ l) (run-never M d (M .does c .next) is (apart .1)))
 
--- a machine with one change gives the outputs of the other until the changed cell is first executed ..
+-- so it gives them until the changed cell is first executed
 pub run-until : (M : Machine) (d : Change) (s : ℕ) (is : List ℕ) (t : ℕ) → has (d .cell) (take t (path M s is)) ≡ false
     → take t (run (under M d) s is) ≡ take t (run M s is)
-run-until M d s is t h = rw (prefix-run (under M d), prefix-run M) (never M d s (take t is) (rw prefix-path at h) .0)
-
--- .. and executes the same cells ..
-pub path-until : (M : Machine) (d : Change) (s : ℕ) (is : List ℕ) (t : ℕ) → has (d .cell) (take t (path M s is)) ≡ false
-    → take t (path (under M d) s is) ≡ take t (path M s is)
-path-until M d s is t h = rw (prefix-path (under M d), prefix-path M) (never M d s (take t is) (rw prefix-path at h) .1)
-
--- .. and all of them if it never is
-pub run-never : (M : Machine) (d : Change) (s : ℕ) (is : List ℕ) → has (d .cell) (path M s is) ≡ false
-    → run (under M d) s is ≡ run M s is
-run-never M d s is h = never M d s is h .0
+run-until M d s is t h = rw (prefix-run (under M d), prefix-run M) (run-never M d s (take t is) (rw prefix-path at h))
 
 -- in a case: as many outputs are expected, and as many cells executed, as there are inputs
 pub length-expected : (M : Machine) (is : List ℕ) → length (expected M is) ≡ length is
@@ -166,9 +154,9 @@ first-before t (g ∷ gs) (y ∷ ys) (suc k) inside seen h = go (agrees y g) (fi
     go false rest h = absurd (omega arith)
 
 -- the first symptom is 64 where there is no symptom ..
-pub first-none : (M : Machine) (is ys : List ℕ) → reproduces M is ys ≡ true → symptomsOf M is ys .first ≡ stepsMost
+pub first-symptom-none : (M : Machine) (is ys : List ℕ) → reproduces M is ys ≡ true → symptomsOf M is ys .first ≡ stepsMost
 unfolding reproduces symptomsOf
-first-none M is ys h = first-matching 0 (expected M is) ys h
+first-symptom-none M is ys h = first-matching 0 (expected M is) ys h
 
 -- .. and else it is a step of the case
 pub first-step : (M : Machine) (is ys : List ℕ) → reproduces M is ys ≡ false → symptomsOf M is ys .first < length is

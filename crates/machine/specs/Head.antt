@@ -16,8 +16,8 @@ unfoldable pub goodHead : Head → Bool
 goodHead h = within (h .states) statesMost && within (h .inputs) inputsMost && within (h .outputs) outputsMost
 
 -- three numbers make a head, or none
-unfoldable pub headOf : ℕ → ℕ → ℕ → MadeHead
-headOf n k m =
+unfoldable pub madeHead : ℕ → ℕ → ℕ → MadeHead
+madeHead n k m =
     let h : Head = record { states = n; inputs = k; outputs = m } in
     cond (goodHead h) (Made h) Nothing
 

@@ -6,3 +6,4 @@ pub mod Fault
 pub mod Case
 pub mod Run
 pub mod Replay
+pub mod Marks

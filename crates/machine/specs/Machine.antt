@@ -18,7 +18,10 @@ initial = 0
 abbrev pub nullOutput : ℕ
 nullOutput = 0
 
--- "Cell number c = state × k + input"
+-- "Cell number c = state × k + input", of a head and of a machine
+abbrev pub cellNumber : Head → ℕ → ℕ → ℕ
+cellNumber h s i = s * h .inputs + i
+
 abbrev pub cellAt : Machine → ℕ → ℕ → ℕ
 cellAt M s i = s * M .inputs + i
 

@@ -1,10 +1,9 @@
 -- The run of a machine, and what a case shows against it (document 01, "Machine", "Symptoms, conflict sets, verdict"; document 000).
 -- The layers above rest on the laws of `proofs/Run.antt` and unfold none of these.
-use Prim.Native.Nat.{ℕ, suc, _+_, _%_}
+use Prim.Native.Nat.{ℕ, suc}
 use mathlib.Core.List.{List, [], _∷_}
 use mathlib.Core.Bool.{Bool, true, cond, _&&_}
 use lib.Dec.{eqb}
-use lib.ListN.{getD, set}
 use Rattle.machine.specs.Limits.{stepsMost}
 use Rattle.machine.specs.Machine.{Machine, initial, cellAt}
 use Rattle.machine.specs.declared.replay.Symptoms.{Symptoms}
@@ -48,11 +47,6 @@ expected M is = run M initial is
 -- and the cells that it executes in it
 unfoldable pub executed : Machine → List ℕ → List ℕ
 executed M is = path M initial is
-
--- a list of numbers in which each cell executed is marked: what stood there, 0 or 1, is now 2 or 3
-unfoldable pub marked : List ℕ → List ℕ → List ℕ
-marked [] out = out
-marked (c ∷ cs) out = marked cs (set out c (getD out c 0 % 2 + 2))
 
 -- "the count of differing steps and the first of them (64 if there is none)"
 unfoldable pub symptomsOf : Machine → List ℕ → List ℕ → Symptoms

@@ -6,16 +6,30 @@ use shapes::byte;
 ghost use mathlib.Core.Path.{_≡_};
 ghost use Prim.Native.Nat.{_<_};
 ghost use lib.ListN.{length};
-ghost use Rattle.machine.specs.Case.{badStep, firstBadStep, goodCase};
+ghost use Rattle.machine.specs.Case.{badInput, badOutput, badStep, firstBadStep, goodCase};
 
-// Whether a step's input is no input or its observed output no output.
+// Whether a step's input is no input of the head's.
+fn is_bad_input(head: Head, inputs: &[u8], step: usize) -> bool
+    requires { ⌜ step < length (now inputs) ⌝ }
+    ensures { λ r. ⌜ r ≡ badInput head (now (inputs .entry)) step ⌝ }
+{
+    head.inputs <= byte(inputs, step)
+}
+
+// Whether a step's observed output is no output of the head's.
+fn is_bad_output(head: Head, outputs: &[u8], step: usize) -> bool
+    requires { ⌜ step < length (now outputs) ⌝ }
+    ensures { λ r. ⌜ r ≡ badOutput head (now (outputs .entry)) step ⌝ }
+{
+    head.outputs <= byte(outputs, step)
+}
+
+// Whether either is so.
 fn is_bad_step(head: Head, inputs: &[u8], outputs: &[u8], step: usize) -> bool
     requires { ⌜ (step < length (now inputs)) × (step < length (now outputs)) ⌝ }
     ensures { λ r. ⌜ r ≡ badStep head (now (inputs .entry)) (now (outputs .entry)) step ⌝ }
 {
-    let input = byte(inputs, step);
-    let output = byte(outputs, step);
-    (head.inputs <= input) | (head.outputs <= output)
+    is_bad_input(head, inputs, step) | is_bad_output(head, outputs, step)
 }
 
 // The lowest bad step, or the count of the steps where none is bad.

@@ -6,7 +6,7 @@ ghost use Prim.Native.Nat.{_+_, _*_, _<_, _≤_};
 ghost use lib.ListN.{length};
 ghost use Rattle.machine.specs.Head.{HeadIn, cellCount};
 ghost use Rattle.machine.specs.Cell.{undefined, badCell, firstBad, TableIn};
-ghost use Rattle.machine.specs.Machine.{completed, specified};
+ghost use Rattle.machine.specs.Machine.{cellNumber, completed, specified};
 
 // Both bytes of an undefined cell.
 pub const UNDEFINED: usize = 255;
@@ -78,7 +78,7 @@ pub fn completed_move(cells: &[u8], state: usize, cell: usize) -> Move
 pub fn cell_of(head: Head, state: usize, input: usize) -> usize
     requires { ⌜ HeadIn head ⌝ }
     requires { ⌜ (state < head .states) × (input < head .inputs) ⌝ }
-    ensures { λ r. ⌜ (r ≡ state * head .inputs + input) × (r < cellCount head) ⌝ }
+    ensures { λ r. ⌜ (r ≡ cellNumber head state input) × (r < cellCount head) ⌝ }
 {
     state * head.inputs + input
 }
@@ -87,7 +87,7 @@ pub fn cell_of(head: Head, state: usize, input: usize) -> usize
 pub fn specified_move(head: Head, cells: &[u8], state: usize, input: usize) -> Move
     requires { ⌜ TableIn head (now cells) ⌝ }
     requires { ⌜ (state < head .states) × (input < head .inputs) ⌝ }
-    ensures moves { λ r. ⌜ r ≡ specified head (now (cells .entry)) .does (state * head .inputs + input) ⌝ }
+    ensures moves { λ r. ⌜ r ≡ specified head (now (cells .entry)) .does (cellNumber head state input) ⌝ }
     ensures state { λ r. ⌜ r .next < head .states ⌝ }
 {
     let cell = cell_of(head, state, input);

@@ -17,6 +17,8 @@ pub enum Kind {
     Transfer,
 }
 
+// What a number stands for: one cell, and the output or the state that it gives there. Any number in use makes one, also a number that is no
+// fault because its value is the cell's own or its cell is undefined: `is_fault` tells.
 pub struct Fault {
     pub cell: usize,
     pub kind: Kind,

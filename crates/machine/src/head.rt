@@ -2,7 +2,7 @@
 ghost use mathlib.Core.Path.{_≡_};
 ghost use Prim.Native.Nat.{_≤_};
 ghost use Rattle.machine.specs.Limits.{cellsMost, numbersMost};
-ghost use Rattle.machine.specs.Head.{within, headOf, HeadIn, cellCount, numbers};
+ghost use Rattle.machine.specs.Head.{within, madeHead, HeadIn, cellCount, numbers};
 
 pub struct Head {
     pub states: usize,
@@ -33,7 +33,7 @@ impl Head {
     pub const CELLS: usize = Head::STATES * Head::INPUTS;
 
     pub fn new(states: usize, inputs: usize, outputs: usize) -> MadeHead
-        ensures made { λ r. ⌜ r ≡ headOf states inputs outputs ⌝ }
+        ensures made { λ r. ⌜ r ≡ madeHead states inputs outputs ⌝ }
         ensures limit { λ r. do ⌜ (← ⟦Head::CELLS⟧ .entry) ≡ cellsMost ⌝ }
     {
         if !is_within(states, Head::STATES) {

@@ -9,15 +9,16 @@ use crate::fault::Fault;
 use crate::head::Head;
 use shapes::byte;
 ghost use mathlib.Core.Path.{_≡_};
-ghost use Prim.Native.Nat.{_+_, _*_, _<_, _≤_};
+ghost use Prim.Native.Nat.{_+_, _<_, _≤_};
 ghost use lib.ListN.{length};
 ghost use Rattle.machine.specs.Limits.{stepsMost};
 ghost use Rattle.machine.specs.Head.{cellCount, numbers};
 ghost use Rattle.machine.specs.Cell.{TableIn};
-ghost use Rattle.machine.specs.Machine.{specified};
-ghost use Rattle.machine.specs.Fault.{under, changed};
+ghost use Rattle.machine.specs.Machine.{cellNumber, specified};
+ghost use Rattle.machine.specs.Fault.{changeAt, under, changed};
 ghost use Rattle.machine.specs.Case.{CaseIn, InputsIn};
-ghost use Rattle.machine.specs.Run.{agrees, executed, marked, symptomsOf, reproduces};
+ghost use Rattle.machine.specs.Run.{agrees, executed, symptomsOf, reproduces};
+ghost use Rattle.machine.specs.Marks.{marked};
 ghost use Rattle.machine.specs.Replay.{fresh, stepped, taken, ReplayIn};
 
 // The state in which a case begins.
@@ -106,7 +107,7 @@ fn changed_move(head: Head, cells: &[u8], at: usize, to: Move, state: usize, inp
     requires { ⌜ TableIn head (now cells) ⌝ }
     requires { ⌜ to .next < head .states ⌝ }
     requires { ⌜ (state < head .states) × (input < head .inputs) ⌝ }
-    ensures moves { λ r. ⌜ r ≡ under (specified head (now (cells .entry))) (record { cell = at; to = to }) .does (state * head .inputs + input) ⌝ }
+    ensures moves { λ r. ⌜ r ≡ under (specified head (now (cells .entry))) (changeAt at to) .does (cellNumber head state input) ⌝ }
     ensures state { λ r. ⌜ r .next < head .states ⌝ }
 {
     let cell = cell_of(head, state, input);

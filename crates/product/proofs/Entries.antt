@@ -8,11 +8,11 @@ use lib.ListN.{length, getD, set}
 use Rattle.shapes.specs.Edit.{edit, filled}
 use Rattle.shapes.proofs.Edit.{edit-none, edit-turn, length-edit}
 use Rattle.machine.specs.Head.{cellCount}
-use Rattle.house.specs.Table.{cellsAt}
-use Rattle.product.specs.Tables.{headOf, cellsOf}
+use Rattle.house.specs.Table.{fileCellsAt}
+use Rattle.product.specs.Tables.{productHead, productCells}
 use Rattle.product.specs.declared.Entry.{Entry}
-use Rattle.product.specs.declared.Model.{Model}
-use Rattle.product.specs.declared.Model.the-variants.{FiveLitre, EightLitre}
+use Rattle.product.specs.declared.Product.{Product}
+use Rattle.product.specs.declared.Product.the-variants.{FiveLitre, EightLitre}
 
 -- twice the next number
 twice : (i : ℕ) → 2 * suc i ≡ suc (suc (2 * i))
@@ -39,41 +39,41 @@ paired-holds (a ∷ []) (suc i) = (rw (twice i), rw (twice-next i))
 paired-holds (a ∷ b ∷ l) zero = (refl, refl)
 paired-holds (a ∷ b ∷ l) (suc i) = let h = paired-holds l i in (rw (twice i) (h .0), rw (twice-next i) (h .1))
 
--- so a constant that is a model's cells as entries holds these
-pub entry-held : {m told : Model} (i : ℕ) → m ≡ told → Holds (getD (paired (cellsOf told)) i (record { next = 0; output = 0 })) (cellsOf m) i
-entry-held {told = told} i e = rw e (paired-holds (cellsOf told) i)
+-- so a constant that is a product's cells as entries holds these
+pub entry-held : {m told : Product} (i : ℕ) → m ≡ told → Holds (getD (paired (productCells told)) i (record { next = 0; output = 0 })) (productCells m) i
+entry-held {told = told} i e = rw e (paired-holds (productCells told) i)
 
--- a model's cells have two numbers each
-pub cells-even : (m : Model) → 2 * cellCount (headOf m) ≡ length (cellsOf m)
+-- a product's cells have two numbers each
+pub cells-even : (m : Product) → 2 * cellCount (productHead m) ≡ length (productCells m)
 cells-even FiveLitre = refl
 cells-even EightLitre = refl
 
--- the first n numbers of a model's cells written where they stand
-pub putTo : Model → ℕ → List ℕ → List ℕ
-putTo m n l = edit (λ i old. getD (cellsOf m) i 0) cellsAt n l
+-- the first n numbers of a product's cells written where they stand
+pub putTo : Product → ℕ → List ℕ → List ℕ
+putTo m n l = edit (λ i old. getD (productCells m) i 0) fileCellsAt n l
 
-module _ (m : Model) (l : List ℕ) where
+module _ (m : Product) (l : List ℕ) where
   -- a loop's start: none is written
   pub put-none : l ≡ putTo m 0 l
   unfolding putTo edit
-  put-none = sym (edit-none (λ i old. getD (cellsOf m) i 0) cellsAt l)
+  put-none = sym (edit-none (λ i old. getD (productCells m) i 0) fileCellsAt l)
 
   -- the length stays
   pub put-length : (n : ℕ) → length (putTo m n l) ≡ length l
   unfolding putTo edit
-  put-length n = length-edit (λ i old. getD (cellsOf m) i 0) cellsAt n l
+  put-length n = length-edit (λ i old. getD (productCells m) i 0) fileCellsAt n l
 
   -- a loop's turn: two numbers more are stored
-  pub put-turn : {done : List ℕ} (cell : ℕ) {a b : ℕ} → done ≡ putTo m (2 * cell) l → a ≡ getD (cellsOf m) (2 * cell) 0
-      → b ≡ getD (cellsOf m) (2 * cell + 1) 0
-      → set (set done (cellsAt + 2 * cell) a) (cellsAt + 2 * cell + 1) b ≡ putTo m (2 * (cell + 1)) l
+  pub put-turn : {done : List ℕ} (cell : ℕ) {a b : ℕ} → done ≡ putTo m (2 * cell) l → a ≡ getD (productCells m) (2 * cell) 0
+      → b ≡ getD (productCells m) (2 * cell + 1) 0
+      → set (set done (fileCellsAt + 2 * cell) a) (fileCellsAt + 2 * cell + 1) b ≡ putTo m (2 * (cell + 1)) l
   unfolding putTo edit
   put-turn cell e ea eb =
-      let first = edit-turn (λ i old. getD (cellsOf m) i 0) cellsAt (2 * cell) l _ _ _ e refl ea in
+      let first = edit-turn (λ i old. getD (productCells m) i 0) fileCellsAt (2 * cell) l _ _ _ e refl ea in
       let n : 2 * (cell + 1) ≡ 2 * cell + 1 + 1 = omega arith in
-      rw n (edit-turn (λ i old. getD (cellsOf m) i 0) cellsAt (2 * cell + 1) l _ _ _ first (omega arith) eb)
+      rw n (edit-turn (λ i old. getD (productCells m) i 0) fileCellsAt (2 * cell + 1) l _ _ _ first (omega arith) eb)
 
   -- a loop's end: all are written
-  pub put-all : {last : List ℕ} (cell : ℕ) → last ≡ putTo m (2 * cell) l → cell ≡ cellCount (headOf m) → last ≡ filled l cellsAt (cellsOf m)
+  pub put-all : {last : List ℕ} (cell : ℕ) → last ≡ putTo m (2 * cell) l → cell ≡ cellCount (productHead m) → last ≡ filled l fileCellsAt (productCells m)
   unfolding putTo filled
   put-all cell e n = rw (e, n, cells-even m)

@@ -10,30 +10,30 @@ use Rattle.machine.specs.declared.head.Head.{Head}
 use Rattle.house.specs.Refusal.{Written, writtenOr}
 use Rattle.house.specs.Table.{tableBytes, tableFile}
 use Rattle.house.specs.declared.refusal.Refusal.the-variants.{Short}
-use Rattle.product.specs.declared.Model.{Model}
-use Rattle.product.specs.declared.Model.the-variants.{FiveLitre, EightLitre}
+use Rattle.product.specs.declared.Product.{Product}
+use Rattle.product.specs.declared.Product.the-variants.{FiveLitre, EightLitre}
 
 -- five-litre (4,3,4) and eight-litre (5,3,5)
-abbrev pub headOf : Model → Head
-headOf FiveLitre = record { states = 4; inputs = 3; outputs = 4 }
-headOf EightLitre = record { states = 5; inputs = 3; outputs = 5 }
+abbrev pub productHead : Product → Head
+productHead FiveLitre = record { states = 4; inputs = 3; outputs = 4 }
+productHead EightLitre = record { states = 5; inputs = 3; outputs = 5 }
 
 -- a row of cells to a state
-abbrev pub cellsOf : Model → List ℕ
-cellsOf FiveLitre =
+abbrev pub productCells : Product → List ℕ
+productCells FiveLitre =
     1 ∷ 1 ∷ 2 ∷ 3 ∷ 0 ∷ 0
     ∷ 0 ∷ 2 ∷ 2 ∷ 3 ∷ 1 ∷ 0
     ∷ 3 ∷ 1 ∷ 2 ∷ 0 ∷ 0 ∷ 0
     ∷ 2 ∷ 2 ∷ 255 ∷ 255 ∷ 1 ∷ 0 ∷ []
-cellsOf EightLitre =
+productCells EightLitre =
     1 ∷ 1 ∷ 2 ∷ 3 ∷ 0 ∷ 0
     ∷ 0 ∷ 2 ∷ 2 ∷ 3 ∷ 1 ∷ 0
     ∷ 3 ∷ 1 ∷ 4 ∷ 4 ∷ 0 ∷ 0
     ∷ 2 ∷ 2 ∷ 4 ∷ 4 ∷ 1 ∷ 0
     ∷ 4 ∷ 0 ∷ 255 ∷ 255 ∷ 0 ∷ 0 ∷ []
 
--- what writing a model's table answers and leaves: SHORT with the bytes needed, or its table file, the tail untouched
-unfoldable pub written : Model → List ℕ → Written
+-- what writing a product's table answers and leaves: SHORT with the bytes needed, or its table file, the tail untouched
+unfoldable pub written : Product → List ℕ → Written
 written m out =
-    writtenOr (ruling (when (ltb (length out) (tableBytes (headOf m))) (Short (tableBytes (headOf m))) ∷ [])) (tableBytes (headOf m)) out
-    (filled out 0 (tableFile (headOf m) (cellsOf m)))
+    writtenOr (ruling (when (ltb (length out) (tableBytes (productHead m))) (Short (tableBytes (productHead m))) ∷ [])) (tableBytes (productHead m)) out
+    (filled out 0 (tableFile (productHead m) (productCells m)))

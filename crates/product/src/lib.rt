@@ -2,8 +2,9 @@
 // writes it as a table file. None is a default.
 use house::refusal::Answer;
 use house::refusal::Refusal;
-use house::table::CELLS;
+use house::table::FILE_CELLS_AT;
 use house::table::put_table_head;
+use machine::cell::UNDEFINED;
 use machine::head::Head;
 ghost use mathlib.Core.Path.{_≡_};
 ghost use Prim.Native.Nat.{_+_, _*_, _<_, _≤_};
@@ -11,9 +12,9 @@ ghost use lib.ListN.{length, getD};
 ghost use Rattle.shapes.specs.Edit.{filled};
 ghost use Rattle.machine.specs.Head.{HeadIn, cellCount};
 ghost use Rattle.house.specs.Refusal.{wrote};
-ghost use Rattle.house.specs.Table.{tableBytes, cellsAt};
-ghost use Rattle.product.specs.Tables.{headOf, cellsOf, written};
-ghost use Rattle.product.specs.declared.Model.the-variants.{FiveLitre, EightLitre};
+ghost use Rattle.house.specs.Table.{tableBytes, fileCellsAt};
+ghost use Rattle.product.specs.Tables.{productHead, productCells, written};
+ghost use Rattle.product.specs.declared.Product.the-variants.{FiveLitre, EightLitre};
 
 // Next state and output of a cell.
 struct Entry {
@@ -21,10 +22,16 @@ struct Entry {
     output: u8,
 }
 
-pub enum Model {
+pub enum Product {
     FiveLitre,
     EightLitre,
 }
+
+// A cell where the table has nothing.
+const NOTHING: Entry = Entry {
+    next: UNDEFINED as u8,
+    output: UNDEFINED as u8,
+};
 
 const FIVE_LITRE: [Entry; 12] = [
     Entry { next: 1, output: 1 },
@@ -37,10 +44,7 @@ const FIVE_LITRE: [Entry; 12] = [
     Entry { next: 2, output: 0 },
     Entry { next: 0, output: 0 },
     Entry { next: 2, output: 2 },
-    Entry {
-        next: 255,
-        output: 255,
-    },
+    NOTHING,
     Entry { next: 1, output: 0 },
 ];
 
@@ -58,25 +62,22 @@ const EIGHT_LITRE: [Entry; 15] = [
     Entry { next: 4, output: 4 },
     Entry { next: 1, output: 0 },
     Entry { next: 4, output: 0 },
-    Entry {
-        next: 255,
-        output: 255,
-    },
+    NOTHING,
     Entry { next: 0, output: 0 },
 ];
 
-impl Model {
+impl Product {
     fn head(self) -> Head
-        ensures head { λ r. ⌜ r ≡ headOf self ⌝ }
+        ensures head { λ r. ⌜ r ≡ productHead self ⌝ }
         ensures known { λ r. ⌜ HeadIn r ⌝ }
     {
         match self {
-            Model::FiveLitre => Head {
+            Product::FiveLitre => Head {
                 states: 4,
                 inputs: 3,
                 outputs: 4,
             },
-            Model::EightLitre => Head {
+            Product::EightLitre => Head {
                 states: 5,
                 inputs: 3,
                 outputs: 5,
@@ -85,42 +86,42 @@ impl Model {
     }
 
     fn entry(self, cell: usize) -> Entry
-        requires { ⌜ cell < cellCount (headOf self) ⌝ }
-        ensures { λ r. ⌜ (r .next ≡ getD (cellsOf self) (2 * cell) 0) × (r .output ≡ getD (cellsOf self) (2 * cell + 1) 0) ⌝ }
+        requires { ⌜ cell < cellCount (productHead self) ⌝ }
+        ensures { λ r. ⌜ (r .next ≡ getD (productCells self) (2 * cell) 0) × (r .output ≡ getD (productCells self) (2 * cell + 1) 0) ⌝ }
     {
         match self {
-            Model::FiveLitre => FIVE_LITRE[cell],
-            Model::EightLitre => EIGHT_LITRE[cell],
+            Product::FiveLitre => FIVE_LITRE[cell],
+            Product::EightLitre => EIGHT_LITRE[cell],
         }
     }
 }
 
-// Writes the cells of a model's table where they stand in its file.
-fn put_cells(model: Model, out: &mut [u8])
-    requires { ⌜ tableBytes (headOf model) ≤ length (now out) ⌝ }
-    ensures { λ _. ⌜ now (out .exit) ≡ filled (now (out .entry)) cellsAt (cellsOf model) ⌝ }
+// Writes the cells of a product's table where they stand in its file.
+fn put_cells(product: Product, out: &mut [u8])
+    requires { ⌜ tableBytes (productHead product) ≤ length (now out) ⌝ }
+    ensures { λ _. ⌜ now (out .exit) ≡ filled (now (out .entry)) fileCellsAt (productCells product) ⌝ }
 {
-    let count = model.head().cells();
+    let count = product.head().cells();
     let mut cell = 0;
     while cell < count {
-        let entry = model.entry(cell);
-        out[CELLS + 2 * cell] = entry.next;
-        out[CELLS + 2 * cell + 1] = entry.output;
+        let entry = product.entry(cell);
+        out[FILE_CELLS_AT + 2 * cell] = entry.next;
+        out[FILE_CELLS_AT + 2 * cell + 1] = entry.output;
         cell += 1;
     }
 }
 
-// Writes a model's table as a table file.
-fn write_model(model: Model, out: &mut [u8]) -> Answer
-    ensures { λ r. ⌜ wrote r (now (out .exit)) ≡ written model (now (out .entry)) ⌝ }
+// Writes a product's table as a table file.
+fn write_product(product: Product, out: &mut [u8]) -> Answer
+    ensures { λ r. ⌜ wrote r (now (out .exit)) ≡ written product (now (out .entry)) ⌝ }
 {
-    let head = model.head();
-    let bytes = CELLS + 2 * head.cells();
+    let head = product.head();
+    let bytes = FILE_CELLS_AT + 2 * head.cells();
     if out.len() < bytes {
         return Answer::Refused(Refusal::Short(bytes));
     }
     put_table_head(out, head);
-    put_cells(model, out);
+    put_cells(product, out);
     Answer::Done(bytes)
 }
 
@@ -128,12 +129,12 @@ fn write_model(model: Model, out: &mut [u8]) -> Answer
 pub fn five_litre(out: &mut [u8]) -> Answer
     ensures { λ r. ⌜ wrote r (now (out .exit)) ≡ written FiveLitre (now (out .entry)) ⌝ }
 {
-    write_model(Model::FiveLitre, out)
+    write_product(Product::FiveLitre, out)
 }
 
 // Writes the eight-litre table, 36 bytes.
 pub fn eight_litre(out: &mut [u8]) -> Answer
     ensures { λ r. ⌜ wrote r (now (out .exit)) ≡ written EightLitre (now (out .entry)) ⌝ }
 {
-    write_model(Model::EightLitre, out)
+    write_product(Product::EightLitre, out)
 }

@@ -10,10 +10,11 @@ use Rattle.house.specs.Table.{headIn, tableRules, tableRead}
 use Rattle.house.specs.Cases.{countIn, countOf, recordOr, casesIn}
 use Rattle.house.specs.declared.refusal.Refusal.{Refusal}
 use Rattle.house.specs.declared.table.TableFile.the-variants.{Table}
-use Rattle.session.specs.Form.{Formed}
-use Rattle.session.specs.Calls.{outcomeOr, roomRules, startRules, startCall, addRules, addCall, withdrawRules, withdrawCall, amendRules, amendCall, loadRules, loadCall}
-use Rattle.session.specs.History.{Call, start, add, amend, withdraw, load, Memory, memory, left, carried}
-use Rattle.session.proofs.Kept.{start-keeps, add-keeps, withdraw-keeps, amend-keeps, load-keeps}
+use Rattle.memory.specs.Form.{Formed, roomRules}
+use Rattle.session.specs.Calls.{outcomeOr, startRules, startCall, addRules, addCall, withdrawRules, withdrawCall, amendRules, amendCall, loadRules, loadCall}
+use Rattle.session.specs.History.{Call, start, add, amend, withdraw, load, Memory, memory, left, called}
+use Rattle.memory.proofs.Started.{start-keeps}
+use Rattle.session.proofs.Kept.{add-keeps, withdraw-keeps, amend-keeps, load-keeps}
 use Rattle.session.proofs.Changed.{add-known, withdraw-known, amend-known, load-known}
 
 -- a memory whose session is well-formed
@@ -31,19 +32,19 @@ unfolding tableRead
 table-read file e = rw e
 
 -- every call keeps the form
-pub form-kept : (c : Call) (s t : List ℕ) → Formed s t → FormedMemory (carried c (memory s t))
-unfolding carried startCall startRules addCall withdrawCall amendCall loadCall
+pub form-kept : (c : Call) (s t : List ℕ) → Formed s t → FormedMemory (called c (memory s t))
+unfolding called startCall startRules addCall withdrawCall amendCall loadCall
 form-kept (start file) s t k =
     keeps-or (ruling (startRules s t file)) _ s t _ _ k
     (λ e. start-keeps s t file (headIn file) (k .session-room) (k .tallies-room) (table-read file (ruling-joined (roomRules s t) (tableRules file) e .1)))
-form-kept (add c) s t k =
-    keeps-or (ruling (addRules s t c)) _ s t _ _ k
-    (λ e. let a = add-known s t c (checked (ruling (addRules s t c))) refl (ap checked e) in add-keeps s t c k (a .1 .0) (a .1 .1))
-form-kept (amend p c) s t k =
-    keeps-or (ruling (amendRules s t p c)) _ s t _ _ k
+form-kept (add o) s t k =
+    keeps-or (ruling (addRules s t o)) _ s t _ _ k
+    (λ e. let a = add-known s t o (checked (ruling (addRules s t o))) refl (ap checked e) in add-keeps s t (o .case) k (a .1 .0) (a .1 .1))
+form-kept (amend p o) s t k =
+    keeps-or (ruling (amendRules s t p o)) _ s t _ _ k
     (λ e.
-    let a = amend-known s t p c (checked (ruling (amendRules s t p c))) refl (ap checked e) in
-    amend-keeps s t p c k (a .0 .1 .0) (a .0 .1 .1) (a .1))
+    let a = amend-known s t p o (checked (ruling (amendRules s t p o))) refl (ap checked e) in
+    amend-keeps s t p (o .case) k (a .0 .1 .0) (a .0 .1 .1) (a .1))
 form-kept (withdraw p) s t k =
     keeps-or (ruling (withdrawRules s t p)) _ s t _ _ k
     (λ e. let a = withdraw-known s t p (checked (ruling (withdrawRules s t p))) refl (ap checked e) in withdraw-keeps s t p k (a .1 .0) (a .1 .1))

@@ -4,7 +4,7 @@
 use Prim.Native.Nat.{ℕ, suc, _+_, _-_, _≤_, _<_}
 use mathlib.Core.Path.{_≡_, refl, sym, subst, _∙_}
 use mathlib.Core.Bool.{Bool, true, false, cond}
-use mathlib.Core.List.{List, [], _∷_}
+use mathlib.Core.List.{List}
 use borrow.Author.Tests.{ltb-false, leb-false, not-false}
 use native.Mathlib.Nat.{sub-zero}
 use native.Mathlib.Omega.{arith}
@@ -17,12 +17,12 @@ use Rattle.shapes.proofs.Tests.{and-true}
 use Rattle.machine.specs.Limits.{stepsMost}
 use Rattle.machine.specs.Head.{numbers}
 use Rattle.machine.specs.Cell.{TableIn}
-use Rattle.machine.specs.Case.{Case, goodCase, CaseIn}
+use Rattle.machine.specs.Case.{Case, goodCase, CaseIn, allGood}
 use Rattle.machine.specs.declared.head.Head.{Head}
 use Rattle.machine.proofs.Cases.{case-in}
 use Rattle.house.specs.File.{restAt}
-use Rattle.house.specs.Cases.{caseEnd, caseAt, countIn, countOf, recordRules, recordOr, casesFrom, casesIn, caseRules, casesRules}
-use Rattle.house.specs.Retest.{placeOf}
+use Rattle.house.specs.Cases.{caseEnd, caseAt, countIn, countOf, recordRules, recordOr, casesFrom, casesIn, alone, caseRules, casesRules}
+use Rattle.house.specs.Walk.{placeOf}
 use Rattle.house.specs.Refusal.{checked}
 use Rattle.house.specs.declared.refusal.Refusal.{Refusal}
 use Rattle.house.specs.declared.refusal.Checked.{Checked}
@@ -32,36 +32,26 @@ use Rattle.house.specs.declared.cases.RecordFile.{RecordFile}
 use Rattle.house.specs.declared.cases.RecordFile as RecordFile-type
 use Rattle.house.proofs.Records.{cases-counted}
 use Rattle.house.proofs.Places.{place-next}
-use Rattle.house.proofs.Against.{case-known}
-use Rattle.diagnosis.specs.Diagnosis.{allGood}
-use Rattle.session.specs.Layout.{placesMost, sessionSize, talliesSize, headOf, cellsOf, caseOf, cases, freePlace, noCase}
-use Rattle.session.specs.Form.{tallyMost, Formed}
-use Rattle.session.specs.Calls.{after, outcomeOr, formRules, isSlot, slotRules, canTake, raised, lowered, placed, addRules, addCall, withdrawRules, withdrawCall, amendRules, amendCall, roomForRules, loadRules, loadCall, loadedSession, loadedTallies}
-use Rattle.session.proofs.Formed.{formed-table, formed-tally, table-good, cases-few}
-use Rattle.session.proofs.Stored.{head-placed, cells-placed, length-placed}
+use Rattle.house.proofs.Against.{case-fine, cases-fine}
+use Rattle.memory.specs.Layout.{placesMost, sessionSize, talliesSize, headOf, cellsOf, caseOf, cases, freePlace, noCase}
+use Rattle.memory.specs.Form.{tallyMost, Formed, formRules, isSlot, slotRules}
+use Rattle.session.specs.Calls.{Offer, after, outcomeOr, addRules, addCall, withdrawRules, withdrawCall, amendRules, amendCall, roomForRules, loadRules, loadCall, loadedSession, loadedTallies}
+use Rattle.session.specs.Tallies.{canTake, raised, lowered}
+use Rattle.memory.specs.Store.{placed}
+use Rattle.memory.proofs.Formed.{formed-table, formed-tally, table-good, cases-most}
+use Rattle.memory.proofs.Stored.{head-placed, cells-placed, length-placed}
 use Rattle.session.proofs.Tallied.{lowered-in, length-lowered, length-raised}
-use Rattle.session.proofs.Kept.{good-fits, slot-inside, add-count, add-keeps, loaded-same, free-left, formed-numbers}
-use Rattle.session.proofs.Known.{told-fine, told-refused, rules-formed, rules-slot, slot-room}
-
--- cases that no rule refuses can be run
-cases-known : (h : Head) (cs : List Case) → ruling (casesRules h cs) ≡ fine → allGood h cs ≡ true
-unfolding casesRules allGood every
-cases-known h [] e = refl
-cases-known h (c ∷ cs) e =
-    let a = ruling-joined (caseRules h c) (casesRules h cs) e in rw (case-known h c (a .0), cases-known h cs (a .1))
-
--- at most 64 cases are held
-held-few : (s : List ℕ) → length (cases s) ≤ placesMost
-unfolding cases
-held-few s = cases-few s placesMost
+use Rattle.memory.proofs.Held.{good-fits, slot-inside, add-count, free-left, formed-numbers}
+use Rattle.session.proofs.Kept.{add-keeps, loaded-same}
+use Rattle.memory.proofs.Known.{told-fine, told-refused, rules-formed, rules-slot, slot-room}
 
 -- a tally in use is at most 64
-tally-few : (s t : List ℕ) → Formed s t → (f : ℕ) → f < numbers (headOf s) → getD t f 0 ≤ placesMost
+tally-room : (s t : List ℕ) → Formed s t → (f : ℕ) → f < numbers (headOf s) → getD t f 0 ≤ placesMost
 unfolding tallyMost
-tally-few s t k f l = go (ltb f (numbers (headOf s))) (formed-tally s t k f (omega (arith, formed-numbers s t k)))
+tally-room s t k f l = go (ltb f (numbers (headOf s))) (formed-tally s t k f (omega (arith, formed-numbers s t k)))
   where
     go : (b : Bool) → getD t f 0 ≤ cond b (length (cases s)) 0 → getD t f 0 ≤ placesMost
-    go true e = omega (arith, held-few s)
+    go true e = omega (arith, cases-most s)
     go false e = omega arith
 
 -- what counting a case into tallies asks
@@ -86,7 +76,7 @@ module _ (s t : List ℕ) (k : Formed s t) (c : Case) (g : goodCase (headOf s) (
       table-good s (k .session-room) (formed-table s t k),
       (
         case-in (headOf s) (c .inputs) (c .outputs) g,
-        λ f l. omega (arith, less f l, tally-few s t k f l),
+        λ f l. omega (arith, less f l, tally-room s t k f l),
       ),
     ),
   )
@@ -106,26 +96,26 @@ module _ (s t : List ℕ) (k : Formed s t) (c : Case) (g : goodCase (headOf s) (
   pub store-known : (p : ℕ) → p < placesMost → CanStore s p c
   store-known p l = let f = good-fits (headOf s) c g in ((k .session-room, l), (f .few, f .even))
 
-module _ (s t : List ℕ) (c : Case) (x : Checked) (e : x ≡ checked (ruling (addRules s t c))) where
+module _ (s t : List ℕ) (o : Offer) (x : Checked) (e : x ≡ checked (ruling (addRules s t o))) where
   -- an addition that the check refuses is refused so, and changes nothing;
-  pub add-refused : {r : Refusal} → x ≡ Refused r → after (Answer-type.the-variants.Refused r) s t ≡ addCall s t c
+  pub add-refused : {r : Refusal} → x ≡ Refused r → after (Answer-type.the-variants.Refused r) s t ≡ addCall s t o
   unfolding addCall
-  add-refused d = rw (told-refused (ruling (addRules s t c)) e d)
+  add-refused d = rw (told-refused (ruling (addRules s t o)) e d)
 
   module _ (d : x ≡ Fine) where
     -- one that is not is of a case that can be run, with a place free for it,
-    pub add-known : Formed s t × ((goodCase (headOf s) (c .inputs) (c .outputs) ≡ true) × (freePlace s < placesMost))
+    pub add-known : Formed s t × ((goodCase (headOf s) (o .case .inputs) (o .case .outputs) ≡ true) × (freePlace s < placesMost))
     unfolding addRules
     add-known =
         let a = ruling-joined (formRules s t) _ (told-fine _ e d) in
-        let b = ruling-joined (caseRules (headOf s) c) _ (a .1) in
-        (rules-formed s t (a .0), (case-known (headOf s) c (b .0), leb-false _ _ (fine-when _ .0 (b .1) .0)))
+        let b = ruling-joined (caseRules (headOf s) alone (o .case)) _ (a .1) in
+        (rules-formed s t (a .0), (case-fine (headOf s) alone (o .case) .0 (b .0), leb-false _ _ (fine-when _ .0 (b .1) .0)))
 
     -- and answers and leaves what an addition is to
-    pub add-done : {n : ℕ} {s′ t′ : List ℕ} → n ≡ freePlace s → s′ ≡ placed s (freePlace s) c → t′ ≡ raised s c t
-        → after (Answer-type.the-variants.Done n) s′ t′ ≡ addCall s t c
+    pub add-done : {n : ℕ} {s′ t′ : List ℕ} → n ≡ freePlace s → s′ ≡ placed s (freePlace s) (o .case) → t′ ≡ raised s (o .case) t
+        → after (Answer-type.the-variants.Done n) s′ t′ ≡ addCall s t o
     unfolding addCall
-    add-done a b f = rw (told-fine (ruling (addRules s t c)) e d, a, b, f)
+    add-done a b f = rw (told-fine (ruling (addRules s t o)) e d, a, b, f)
 
 module _ (s t : List ℕ) (p : ℕ) (x : Checked) (e : x ≡ checked (ruling (withdrawRules s t p))) where
   -- a withdrawal that the check refuses is refused so, and changes nothing;
@@ -152,39 +142,39 @@ module _ (s t : List ℕ) (p : ℕ) (x : Checked) (e : x ≡ checked (ruling (wi
     unfolding withdrawCall
     withdraw-done a b = rw (told-fine (ruling (withdrawRules s t p)) e d, a, b)
 
-module _ (s t : List ℕ) (p : ℕ) (c : Case) (x : Checked) (e : x ≡ checked (ruling (amendRules s t p c))) where
+module _ (s t : List ℕ) (p : ℕ) (o : Offer) (x : Checked) (e : x ≡ checked (ruling (amendRules s t p o))) where
   -- an amendment that the check refuses is refused so, and changes nothing;
-  pub amend-refused : {r : Refusal} → x ≡ Refused r → after (Answer-type.the-variants.Refused r) s t ≡ amendCall s t p c
+  pub amend-refused : {r : Refusal} → x ≡ Refused r → after (Answer-type.the-variants.Refused r) s t ≡ amendCall s t p o
   unfolding amendCall
-  amend-refused d = rw (told-refused (ruling (amendRules s t p c)) e d)
+  amend-refused d = rw (told-refused (ruling (amendRules s t p o)) e d)
 
   module _ (d : x ≡ Fine) where
     -- one that is not is of a case that can be run, for one that is held and can be counted out of the tallies,
-    pub amend-known : (Formed s t × ((isSlot s p ≡ true) × (canTake s t p ≡ true))) × (goodCase (headOf s) (c .inputs) (c .outputs) ≡ true)
+    pub amend-known : (Formed s t × ((isSlot s p ≡ true) × (canTake s t p ≡ true))) × (goodCase (headOf s) (o .case .inputs) (o .case .outputs) ≡ true)
     unfolding amendRules
     amend-known =
         let a = ruling-joined (slotRules s t p) _ (told-fine _ e d) in
-        let b = ruling-joined (caseRules (headOf s) c) _ (a .1) in
+        let b = ruling-joined (caseRules (headOf s) alone (o .case)) _ (a .1) in
         let k = rules-slot s t p (a .0) in
-        ((k .0, (k .1, not-false _ (fine-when _ .0 (b .1) .0))), case-known (headOf s) c (b .0))
+        ((k .0, (k .1, not-false _ (fine-when _ .0 (b .1) .0))), case-fine (headOf s) alone (o .case) .0 (b .0))
 
     -- so that the old case can be counted out,
     pub amend-takes : Formed s t × ((isSlot s p ≡ true) × (canTake s t p ≡ true))
     amend-takes = amend-known .0
 
     -- the new one counted in,
-    pub amend-raises : {t′ : List ℕ} → t′ ≡ lowered s (caseOf s p) t → CanRaise s t′ c
-    amend-raises {t′} = let k = amend-known in raise-again s t (k .0 .0) c (k .1) (caseOf s p) t′
+    pub amend-raises : {t′ : List ℕ} → t′ ≡ lowered s (caseOf s p) t → CanRaise s t′ (o .case)
+    amend-raises {t′} = let k = amend-known in raise-again s t (k .0 .0) (o .case) (k .1) (caseOf s p) t′
 
     -- and stored;
-    pub amend-stores : CanStore s p c
-    amend-stores = let k = amend-known in store-known s t (k .0 .0) c (k .1) p (slot-inside s p (k .0 .1 .0))
+    pub amend-stores : CanStore s p (o .case)
+    amend-stores = let k = amend-known in store-known s t (k .0 .0) (o .case) (k .1) p (slot-inside s p (k .0 .1 .0))
 
     -- and answers and leaves what an amendment is to
-    pub amend-done : {s′ t′ t″ : List ℕ} → s′ ≡ placed s p c → t′ ≡ lowered s (caseOf s p) t → t″ ≡ raised s c t′
-        → after (Answer-type.the-variants.Done 0) s′ t″ ≡ amendCall s t p c
+    pub amend-done : {s′ t′ t″ : List ℕ} → s′ ≡ placed s p (o .case) → t′ ≡ lowered s (caseOf s p) t → t″ ≡ raised s (o .case) t′
+        → after (Answer-type.the-variants.Done 0) s′ t″ ≡ amendCall s t p o
     unfolding amendCall
-    amend-done a b f = rw (told-fine (ruling (amendRules s t p c)) e d, a, f, b)
+    amend-done a b f = rw (told-fine (ruling (amendRules s t p o)) e d, a, f, b)
 
 module _ (s t file : List ℕ) (x : RecordFile) (e : x ≡ recordOr (ruling (loadRules s t file)) (countOf (countIn file))) where
   -- a load that the check refuses is refused so, and changes nothing;
@@ -217,9 +207,9 @@ module _ (s t file : List ℕ) (x : RecordFile) (e : x ≡ recordOr (ruling (loa
     load-known =
         let a = ruling-joined (formRules s t) _ (load-counted .0) in
         let b = ruling-joined (recordRules file) _ (a .1) in
-        let g = ruling-joined (casesRules (headOf s) (casesIn file)) _ (b .1) in
+        let g = ruling-joined (casesRules (headOf s) alone (casesIn file)) _ (b .1) in
         let l : length (casesIn file) ≤ placesMost - length (cases s) = ltb-false _ _ (fine-when _ .0 (g .1) .0) in
-        (rules-formed s t (a .0), (b .0, (load-counted .1, (cases-known (headOf s) (casesIn file) (g .0), omega (arith, held-few s)))))
+        (rules-formed s t (a .0), (b .0, (load-counted .1, (cases-fine (headOf s) alone (casesIn file) .0 (g .0), omega (arith, cases-most s)))))
 
     -- and what a load is to answer and to leave
     pub load-done : {s′ t′ : List ℕ} → s′ ≡ loadedSession s (casesIn file) → t′ ≡ loadedTallies s (casesIn file) t

@@ -5,45 +5,42 @@ use Prim.Native.Nat.{ℕ, zero, suc, _+_, _-_, _≤_, _<_}
 use mathlib.Core.Path.{_≡_, refl, sym, ap, subst, _∙_}
 use mathlib.Core.List.{List, [], _∷_, _++_}
 use mathlib.Core.Bool.{Bool, true, false, cond, not, _&&_, true≢false, false≢true}
-use mathlib.Core.Logic.{_⊎_, inl, inr}
+use mathlib.Core.Logic.{_↔_}
 use native.Mathlib.Nat.{add-assoc, zero-add}
 use native.Mathlib.Omega.{arith}
 use lib.Dec.{eqb, ltb, leb}
-use lib.ListN.{length, getD, replicate, drop, length-drop, length-replicate, List·getD-eq-default}
+use lib.ListN.{length, getD, replicate, drop, length-drop, length-replicate}
 use lib.Seq.{length-take-le, getD-take, getD-drop, ext-getD}
-use borrow.Author.Tests.{eq-eqb, eqb-true, eqb-false, lt-ltb, le-ltb, le-leb, lt-leb, ltb-true, ltb-false, leb-true, leb-false, not-true}
-use Rattle.shapes.specs.Edit.{edit}
-use Rattle.shapes.specs.Keep.{has, every}
+use borrow.Author.Tests.{eqb-true, eqb-false, lt-ltb, le-ltb, le-leb, lt-leb, ltb-true, ltb-false, leb-true, leb-false}
+use Rattle.shapes.specs.Keep.{every}
 use Rattle.shapes.specs.Refusals.{Rule, when, Ruling, fine, refused, ruling}
-use Rattle.shapes.proofs.First.{first-same, first-holds}
-use Rattle.shapes.proofs.Edit.{edit-in, edit-out-above, length-edit}
+use Rattle.shapes.proofs.First.{first-same}
+use Rattle.shapes.proofs.Edit.{edit-in, length-edit}
 use Rattle.shapes.proofs.Refusals.{fine-when}
 use Rattle.shapes.proofs.Tests.{and-true}
 use Rattle.machine.specs.Head.{numbers}
-use Rattle.machine.specs.Fault.{cellOf}
-use Rattle.machine.specs.Case.{Case, goodCase}
+use Rattle.machine.specs.Case.{Case, goodCase, allGood}
 use Rattle.machine.specs.declared.head.Head.{Head}
-use Rattle.machine.proofs.Cases.{case-in}
 use Rattle.house.specs.File.{restAt}
 use Rattle.house.specs.Table.{headIn, cellsIn, tableRules, tableOr, tableRead}
-use Rattle.house.specs.Cases.{recordFile, AllRecordable, countIn, countOf, recordRules, recordOr, recordRead, casesIn, caseRules, casesRules}
+use Rattle.house.specs.Cases.{countIn, countOf, recordRules, recordOr, recordRead, casesIn, alone, caseRules, casesRules}
 use Rattle.house.specs.declared.refusal.Refusal.{Refusal}
 use Rattle.house.specs.declared.table.TableFile.the-variants.{Table}
-use Rattle.house.specs.declared.cases.RecordFile.the-variants.{Record}
 use Rattle.house.proofs.Tables.{table-taken}
-use Rattle.house.proofs.Records.{record-reads-back}
-use Rattle.diagnosis.specs.Diagnosis.{tally, list, someFails, verdictOf, isCandidate, allGood}
-use Rattle.session.specs.Layout.{placesMost, cellsAt, cellsRoom, sessionSize, talliesSize, headOf, cellsOf, isHeld, caseOf, caseIf, heldTo, cases, freePlace, noCase}
-use Rattle.session.specs.Form.{Formed, TrueTallies}
-use Rattle.session.specs.Calls.{outcomeOr, roomRules, formRules, isSlot, slotRules, miss, canTake, raised, lowered, placed, started, cleared, startRules, startCall, addRules, addCall, withdrawRules, withdrawCall, amendRules, amendCall, loadedSession, loadedTallies, roomForRules, loadRules, loadCall}
-use Rattle.session.specs.Reads.{machineOf, listOf, verdictIn, falseTally, auditIf, auditOr, auditCall}
-use Rattle.session.specs.History.{Call, start, add, amend, withdraw, load, Memory, memory, left, carried, carriedAll, Slot, free, holds, Model, isHolding, slotCases, casesTo, casesHeld, lowest, put, putAll, withPlaces, cellBytes, startedModel, fitsTable, startOr, loadOr, step, steps, slotOf, Shows}
-use Rattle.session.specs.declared.read.Audited as Audited-type
-use Rattle.session.proofs.Listed.{list-by-replay, candidate-listed}
-use Rattle.session.proofs.Formed.{cases-good, cases-few}
-use Rattle.session.proofs.Stored.{Fits, no-fits, head-placed, cells-placed, case-placed, held-placed, steps-elsewhere, case-elsewhere}
-use Rattle.session.proofs.Tallied.{miss-few}
-use Rattle.session.proofs.Kept.{good-fits, good-fills, slot-inside, places-few, add-count, add-keeps, withdraw-keeps, amend-keeps, start-keeps, loaded-same, free-left, started-byte, started-free, table-short, started-table}
+use Rattle.house.proofs.Against.{case-fine, cases-fine}
+use Rattle.diagnosis.specs.Diagnosis.{tally}
+use Rattle.memory.specs.Layout.{placesMost, sessionCellsAt, cellsRoom, sessionSize, talliesSize, headOf, cellsOf, isHeld, caseOf, caseIf, heldTo, cases, freePlace, noCase}
+use Rattle.memory.specs.Form.{Formed, roomRules, formRules, isSlot, slotRules}
+use Rattle.session.specs.Tallies.{TrueTallies, canTake, raised, lowered}
+use Rattle.session.specs.Calls.{Offer, outcomeOr, startRules, startCall, addRules, addCall, withdrawRules, withdrawCall, amendRules, amendCall, loadedSession, loadedTallies, roomForRules, loadRules, loadCall}
+use Rattle.memory.specs.Store.{placed, started, cleared}
+use Rattle.session.specs.History.{Call, start, add, amend, withdraw, load, Memory, memory, left, called, calledAll, Content, free, holds, Model, isHolding, contentCases, casesTo, casesHeld, lowest, put, putAll, withPlaces, cellBytes, startedModel, fitsTable, startOr, loadOr, step, steps, contentOf, Shows}
+use Rattle.memory.proofs.Formed.{cases-most}
+use Rattle.memory.proofs.Known.{room-rules, formed-rules}
+use Rattle.memory.proofs.Stored.{Fits, no-fits, head-placed, cells-placed, case-placed, held-placed, steps-elsewhere, case-elsewhere}
+use Rattle.memory.proofs.Held.{good-fits, good-fills, slot-inside, places-few, add-count, free-left}
+use Rattle.session.proofs.Kept.{add-keeps, withdraw-keeps, amend-keeps, loaded-same}
+use Rattle.memory.proofs.Started.{start-keeps, started-byte, started-free, table-short, started-table}
 use Rattle.session.proofs.True.{add-true, true-can-take, withdraw-true, amend-true, start-true}
 
 -- what a memory shows
@@ -84,31 +81,31 @@ done-shows : (v : Ruling Refusal) (n : ℕ) (s t s′ t′ : List ℕ) (b : Bool
 done-shows fine n s t s′ t′ b m m′ d k next = rw d (next d)
 done-shows (refused r) n s t s′ t′ b m m′ d k next = rw d k
 
+-- what is fine exactly if a test holds is decided by it:
+decides-from : (v : Ruling Refusal) (b : Bool) → (v ≡ fine) ↔ (b ≡ true) → Decides v b
+decides-from fine b e = e .0 refl
+decides-from (refused r) true e = let z = e .1 refl in cc
+decides-from (refused r) false e = refl
+
 -- the rules let pass buffers that are long enough,
 room-decides : (s t : List ℕ) → sessionSize ≤ length s → talliesSize ≤ length t → Decides (ruling (roomRules s t)) true
-unfolding roomRules ruling
-room-decides s t a b = rw (le-ltb (length s) sessionSize a, le-ltb (length t) talliesSize b)
+room-decides s t a b = decides-from _ true (λ e. refl, λ e. room-rules s t a b)
 
 -- a well-formed session,
 form-decides : (s t : List ℕ) → Formed s t → Decides (ruling (formRules s t)) true
-unfolding formRules
-form-decides s t k =
-    decides-join (roomRules s t) _ true true (room-decides s t (k .session-room) (k .tallies-room)) (decides-one _ true _ (ap not (k .form)))
+form-decides s t k = decides-from _ true (λ e. refl, λ e. formed-rules s t k)
 
 -- a case that can be run,
-case-decides : (h : Head) (c : Case) → Decides (ruling (caseRules h c)) (goodCase h (c .inputs) (c .outputs))
-unfolding caseRules
-case-decides h c = decides-one _ (goodCase h (c .inputs) (c .outputs)) _ refl
+case-decides : (h : Head) (c : Case) → Decides (ruling (caseRules h alone c)) (goodCase h (c .inputs) (c .outputs))
+case-decides h c = decides-from _ _ (case-fine h alone c)
 
 -- and cases that all can
-cases-decide : (h : Head) (cs : List Case) → Decides (ruling (casesRules h cs)) (allGood h cs)
-unfolding casesRules allGood every ruling
-cases-decide h [] = refl
-cases-decide h (c ∷ cs) = decides-join (caseRules h c) (casesRules h cs) _ _ (case-decides h c) (cases-decide h cs)
+cases-decide : (h : Head) (cs : List Case) → Decides (ruling (casesRules h alone cs)) (allGood h cs)
+cases-decide h cs = decides-from _ _ (cases-fine h alone cs)
 
 -- what a place of the memory holds is a case exactly if the place is held
-slot-holding : (s : List ℕ) (p : ℕ) → isHolding (slotOf s p) ≡ isHeld s p
-unfolding slotOf
+slot-holding : (s : List ℕ) (p : ℕ) → isHolding (contentOf s p) ≡ isHeld s p
+unfolding contentOf
 slot-holding s p = go (isHeld s p)
   where
     go : (b : Bool) → isHolding (cond b (holds (caseOf s p)) free) ≡ b
@@ -116,20 +113,20 @@ slot-holding s p = go (isHeld s p)
     go false = refl
 
 -- and its cases are those of the place
-slot-cases : (s : List ℕ) (p : ℕ) → caseIf (isHeld s p) (caseOf s p) ≡ slotCases (slotOf s p)
-unfolding slotOf
+slot-cases : (s : List ℕ) (p : ℕ) → caseIf (isHeld s p) (caseOf s p) ≡ contentCases (contentOf s p)
+unfolding contentOf
 slot-cases s p = go (isHeld s p)
   where
-    go : (b : Bool) → caseIf b (caseOf s p) ≡ slotCases (cond b (holds (caseOf s p)) free)
+    go : (b : Bool) → caseIf b (caseOf s p) ≡ contentCases (cond b (holds (caseOf s p)) free)
     go true = refl
     go false = refl
 
 -- places that hold the same hold the same cases
-held-same : (s : List ℕ) (at : ℕ → Slot) (n : ℕ) → ((p : ℕ) → p < n → slotOf s p ≡ at p) → heldTo s n ≡ casesTo at n
+held-same : (s : List ℕ) (at : ℕ → Content) (n : ℕ) → ((p : ℕ) → p < n → contentOf s p ≡ at p) → heldTo s n ≡ casesTo at n
 unfolding heldTo casesTo
 held-same s at zero each = refl
 held-same s at (suc n) each =
-    λ i. held-same s at n (λ p l. each p (omega arith)) i ++ (slot-cases s n ∙ ap slotCases (each n (omega arith))) i
+    λ i. held-same s at n (λ p l. each p (omega arith)) i ++ (slot-cases s n ∙ ap contentCases (each n (omega arith))) i
 
 module _ (s t : List ℕ) (m : Model) (k : Shows s t m) where
   -- the cases held are those of the model, by rising place
@@ -160,10 +157,10 @@ module _ (s t : List ℕ) (m : Model) (k : Shows s t m) where
   fits-shown c = rw (k .same-head)
 
   -- a store in a place is shown by a change of that place
-  place-shows : (p : ℕ) → p < placesMost → (c : Case) → Fits c → (x : Slot)
+  place-shows : (p : ℕ) → p < placesMost → (c : Case) → Fits c → (x : Content)
       → cond (not (eqb (length (c .inputs)) 0)) (holds c) free ≡ x → (t′ : List ℕ) → Formed (placed s p c) t′ → TrueTallies (placed s p c) t′
       → Shows (placed s p c) t′ (withPlaces m (put (m .at) p x))
-  unfolding slotOf
+  unfolding contentOf
   place-shows p l c fits x is t′ form now =
       record {
         formed = form;
@@ -176,10 +173,10 @@ module _ (s t : List ℕ) (m : Model) (k : Shows s t m) where
       room : sessionSize ≤ length s
       room = k .formed .session-room
 
-      here : slotOf (placed s p c) p ≡ x
+      here : contentOf (placed s p c) p ≡ x
       here = (λ i. cond (held-placed s room p l c fits i) (holds (case-placed s room p l c fits i)) free) ∙ is
 
-      go : (q : ℕ) → q < placesMost → (b : Bool) → eqb q p ≡ b → slotOf (placed s p c) q ≡ cond b x (m .at q)
+      go : (q : ℕ) → q < placesMost → (b : Bool) → eqb q p ≡ b → contentOf (placed s p c) q ≡ cond b x (m .at q)
       go q h true e = rw (eqb-true q p e) here
       go q h false e =
           let other = eqb-false q p e in
@@ -236,7 +233,7 @@ unfolding cellBytes
 started-cells s file room long = ext-getD 0 (cellsOf (started s file)) (cellBytes file) (here ∙ sym there) (λ i h. each i (rw here at h))
   where
     here : length (cellsOf (started s file)) ≡ cellsRoom
-    here = length-take-le cellsRoom (drop cellsAt (started s file)) (omega (arith, length-drop cellsAt (started s file)))
+    here = length-take-le cellsRoom (drop sessionCellsAt (started s file)) (omega (arith, length-drop sessionCellsAt (started s file)))
 
     zeros : List ℕ
     zeros = replicate cellsRoom 0
@@ -249,17 +246,17 @@ started-cells s file room long = ext-getD 0 (cellsOf (started s file)) (cellByte
 
     each : (i : ℕ) → i < cellsRoom → getD (cellsOf (started s file)) i 0 ≡ getD (cellBytes file) i 0
     each i l =
-        getD-take cellsRoom (drop cellsAt (started s file)) i 0 l
-        ∙ getD-drop cellsAt (started s file) i 0
-        ∙ started-byte s file room (cellsAt + i) (omega arith)
-        ∙ ap (λ (j : ℕ). getD file j 0) (sym (add-assoc restAt cellsAt i))
-        ∙ sym (getD-drop (restAt + cellsAt) file i 0)
+        getD-take cellsRoom (drop sessionCellsAt (started s file)) i 0 l
+        ∙ getD-drop sessionCellsAt (started s file) i 0
+        ∙ started-byte s file room (sessionCellsAt + i) (omega arith)
+        ∙ ap (λ (j : ℕ). getD file j 0) (sym (add-assoc restAt sessionCellsAt i))
+        ∙ sym (getD-drop (restAt + sessionCellsAt) file i 0)
         ∙ sym (rw zero-add at (edit-in (λ i old. getD (cellsIn file) i 0) 0 cellsRoom zeros i l (omega arith)))
 
 -- so a session that was started shows the model that its file starts
 started-shows : (s t file : List ℕ) (h : Head) → sessionSize ≤ length s → talliesSize ≤ length t → tableRead file ≡ Table h
     → Shows (started s file) (cleared t) (startedModel file h)
-unfolding startedModel slotOf
+unfolding startedModel contentOf
 started-shows s t file h room rest read =
     record {
       formed = form;
@@ -291,13 +288,13 @@ start-shows s t file h room rest read =
     go (refused r) d = absurd (true≢false d)
 
 -- an add is let pass exactly if the model takes it
-add-decides : (s t : List ℕ) (m : Model) → Shows s t m → (c : Case)
-    → Decides (ruling (addRules s t c)) (fitsTable m c && ltb (lowest (m .at)) placesMost)
+add-decides : (s t : List ℕ) (m : Model) → Shows s t m → (o : Offer)
+    → Decides (ruling (addRules s t o)) (fitsTable m (o .case) && ltb (lowest (m .at)) placesMost)
 unfolding addRules
-add-decides s t m k c =
-    rw (fits-shown s t m k c, free-shown s t m k)
+add-decides s t m k o =
+    rw (fits-shown s t m k (o .case), free-shown s t m k)
     (decides-join (formRules s t) _ true _ (form-decides s t (k .formed))
-    (decides-join (caseRules (headOf s) c) _ _ _ (case-decides (headOf s) c)
+    (decides-join (caseRules (headOf s) alone (o .case)) _ _ _ (case-decides (headOf s) (o .case))
     (decides-one (leb placesMost (freePlace s)) (ltb (freePlace s) placesMost) _ (low (ltb (freePlace s) placesMost) refl))))
   where
     low : (b : Bool) → ltb (freePlace s) placesMost ≡ b → leb placesMost (freePlace s) ≡ not b
@@ -322,26 +319,21 @@ withdraw-decides s t m k p =
     can false e = refl
 
 -- so is an amendment,
-amend-decides : (s t : List ℕ) (m : Model) → Shows s t m → (p : ℕ) (c : Case)
-    → Decides (ruling (amendRules s t p c)) ((ltb p placesMost && isHolding (m .at p)) && fitsTable m c)
+amend-decides : (s t : List ℕ) (m : Model) → Shows s t m → (p : ℕ) (o : Offer)
+    → Decides (ruling (amendRules s t p o)) ((ltb p placesMost && isHolding (m .at p)) && fitsTable m (o .case))
 unfolding amendRules
-amend-decides s t m k p c =
-    rw (slot-shown s t m k p, fits-shown s t m k c, ← can (isSlot s p) refl good)
+amend-decides s t m k p o =
+    rw (slot-shown s t m k p, fits-shown s t m k (o .case), ← can (isSlot s p) refl good)
     (decides-join (slotRules s t p) _ _ _ (slot-decides s t m k p)
-    (decides-join (caseRules (headOf s) c) _ _ _ (case-decides (headOf s) c) (decides-one _ (canTake s t p) _ refl)))
+    (decides-join (caseRules (headOf s) alone (o .case)) _ _ _ (case-decides (headOf s) (o .case)) (decides-one _ (canTake s t p) _ refl)))
   where
     good : Bool
-    good = goodCase (headOf s) (c .inputs) (c .outputs)
+    good = goodCase (headOf s) (o .case .inputs) (o .case .outputs)
 
     can : (b : Bool) → isSlot s p ≡ b → (g : Bool) → (b && (g && canTake s t p)) ≡ (b && g)
     can true e true = true-can-take s t p (k .formed) (k .true-tallies) e
     can true e false = refl
     can false e g = refl
-
--- at most 64 cases are held
-cases-most : (s : List ℕ) → length (cases s) ≤ placesMost
-unfolding cases
-cases-most s = cases-few s placesMost
 
 -- there are fewer free places than cases to add exactly if the cases would be too many
 room-left : (n k : ℕ) → n ≤ placesMost → ltb (placesMost - n) k ≡ not (leb (n + k) placesMost)
@@ -360,7 +352,7 @@ load-decides s t m k file =
     rw (← shown-cases s t m k, ← k .same-head)
     (decides-join (formRules s t) _ true _ (form-decides s t (k .formed))
     (decides-join (recordRules file) _ _ _ (decides-fine (ruling (recordRules file)))
-    (decides-join (casesRules (headOf s) (casesIn file)) _ _ _ (cases-decide (headOf s) (casesIn file))
+    (decides-join (casesRules (headOf s) alone (casesIn file)) _ _ _ (cases-decide (headOf s) (casesIn file))
     (decides-one _ _ _ (room-left (length (cases s)) (length (casesIn file)) (cases-most s))))))
 
 -- the model that a file leaves, by whether the rules let the file pass: for a table,
@@ -381,22 +373,22 @@ table-fine fine h e = refl
 table-fine (refused r) h e = absurd (false≢true e)
 
 -- every call keeps it so, refused or not
-pub call-shows : (c : Call) (s t : List ℕ) (m : Model) → Shows s t m → ShowsMemory (carried c (memory s t)) (step c m)
-unfolding carried step startCall addCall amendCall withdrawCall loadCall tableRead recordRead
+pub call-shows : (c : Call) (s t : List ℕ) (m : Model) → Shows s t m → ShowsMemory (called c (memory s t)) (step c m)
+unfolding called step startCall addCall amendCall withdrawCall loadCall tableRead recordRead
 call-shows (start file) s t m k =
     let room = k .formed .session-room in
     let rest = k .formed .tallies-room in
     rw (start-taken (ruling (tableRules file)) (headIn file) file m)
     (done-shows (ruling (startRules s t file)) 0 s t (started s file) (cleared t) _ m (startedModel file (headIn file)) (start-decides s t file room rest) k
     (λ e. started-shows s t file (headIn file) room rest (table-fine (ruling (tableRules file)) (headIn file) e)))
-call-shows (add c) s t m k =
-    done-shows (ruling (addRules s t c)) (freePlace s) s t (placed s (freePlace s) c) (raised s c t) _ m _ (add-decides s t m k c) k
-    (λ e. let a = and-true (fitsTable m c) _ e in
-    add-shows s t m k c (sym (fits-shown s t m k c) ∙ a .0) (rw (free-shown s t m k) at (ltb-true (lowest (m .at)) placesMost (a .1))))
-call-shows (amend p c) s t m k =
-    done-shows (ruling (amendRules s t p c)) 0 s t (placed s p c) (raised s c (lowered s (caseOf s p) t)) _ m _ (amend-decides s t m k p c) k
+call-shows (add o) s t m k =
+    done-shows (ruling (addRules s t o)) (freePlace s) s t (placed s (freePlace s) (o .case)) (raised s (o .case) t) _ m _ (add-decides s t m k o) k
+    (λ e. let a = and-true (fitsTable m (o .case)) _ e in
+    add-shows s t m k (o .case) (sym (fits-shown s t m k (o .case)) ∙ a .0) (rw (free-shown s t m k) at (ltb-true (lowest (m .at)) placesMost (a .1))))
+call-shows (amend p o) s t m k =
+    done-shows (ruling (amendRules s t p o)) 0 s t (placed s p (o .case)) (raised s (o .case) (lowered s (caseOf s p) t)) _ m _ (amend-decides s t m k p o) k
     (λ e. let a = and-true (ltb p placesMost && isHolding (m .at p)) _ e in
-    amend-shows s t m k p c (sym (slot-shown s t m k p) ∙ a .0) (sym (fits-shown s t m k c) ∙ a .1))
+    amend-shows s t m k p (o .case) (sym (slot-shown s t m k p) ∙ a .0) (sym (fits-shown s t m k (o .case)) ∙ a .1))
 call-shows (withdraw p) s t m k =
     done-shows (ruling (withdrawRules s t p)) 0 s t (placed s p noCase) (lowered s (caseOf s p) t) _ m _ (withdraw-decides s t m k p) k
     (λ e. withdraw-shows s t m k p (sym (slot-shown s t m k p) ∙ e))
@@ -410,14 +402,14 @@ call-shows (load file) s t m k =
     (rw (← shown-cases s t m k) at (leb-true (length (casesHeld m) + length (casesIn file)) placesMost (b .1)))))
 
 -- so do calls one after the other
-calls-show : (calls : List Call) (x : Memory) (m : Model) → ShowsMemory x m → ShowsMemory (carriedAll calls x) (steps calls m)
-unfolding carriedAll steps
+calls-show : (calls : List Call) (x : Memory) (m : Model) → ShowsMemory x m → ShowsMemory (calledAll calls x) (steps calls m)
+unfolding calledAll steps
 calls-show [] x m k = k
-calls-show (c ∷ cs) (memory s t) m k = calls-show cs (carried c (memory s t)) (step c m) (call-shows c s t m k)
+calls-show (c ∷ cs) (memory s t) m k = calls-show cs (called c (memory s t)) (step c m) (call-shows c s t m k)
 
 -- after a start and any list of calls the memory shows the model
 pub history : (s t file : List ℕ) (h : Head) → sessionSize ≤ length s → talliesSize ≤ length t → tableRead file ≡ Table h → (calls : List Call)
-    → ShowsMemory (carriedAll calls (left (startCall s t file))) (steps calls (startedModel file h))
+    → ShowsMemory (calledAll calls (left (startCall s t file))) (steps calls (startedModel file h))
 history s t file h room rest read calls = calls-show calls (left (startCall s t file)) (startedModel file h) (start-shows s t file h room rest read)
 
 module _ (s t : List ℕ) (m : Model) (k : Shows s t m) where
@@ -425,130 +417,3 @@ module _ (s t : List ℕ) (m : Model) (k : Shows s t m) where
   pub shown-tally : (f : ℕ) → f < numbers (m .head) → getD t f 0 ≡ tally (m .head) (m .cells) (casesHeld m) f
   shown-tally f l =
       k .true-tallies f (rw (ap numbers (k .same-head)) l) ∙ (λ i. tally (k .same-head i) (k .same-cells i) (shown-cases s t m k i) f)
-
-  -- the list by tallies is that of the model's cases taken afresh,
-  pub shown-list : listOf s t ≡ list (m .head) (m .cells) (casesHeld m)
-  shown-list = list-by-replay s t (k .true-tallies) ∙ (λ i. list (k .same-head i) (k .same-cells i) (shown-cases s t m k i))
-
-  -- and so is the verdict
-  pub shown-verdict : verdictIn s t ≡ verdictOf (someFails (m .head) (m .cells) (casesHeld m)) (list (m .head) (m .cells) (casesHeld m))
-  unfolding verdictIn
-  shown-verdict = λ i. verdictOf (someFails (k .same-head i) (k .same-cells i) (shown-cases s t m k i)) (shown-list i)
-
-  -- an audit says true
-  pub shown-audit : auditCall s t ≡ Audited-type.the-variants.True
-  unfolding auditCall falseTally
-  shown-audit = go (ruling (formRules s t)) (form-decides s t (k .formed)) (ltb (falseTally s t) (numbers (headOf s))) refl
-    where
-      wrong : ℕ → Bool
-      wrong f = not (eqb (getD t f 0) (tally (headOf s) (cellsOf s) (cases s) f))
-
-      go : (v : Ruling Refusal) → Decides v true → (b : Bool) → ltb (falseTally s t) (numbers (headOf s)) ≡ b
-          → auditOr v (auditIf b (falseTally s t)) ≡ Audited-type.the-variants.True
-      go fine d false e = refl
-      go fine d true e =
-          let l = ltb-true (falseTally s t) (numbers (headOf s)) e in
-          let bad = not-true _ (first-holds wrong 0 (numbers (headOf s)) (omega arith)) in
-          absurd (true≢false (sym (eq-eqb _ _ (k .true-tallies (falseTally s t) l)) ∙ bad))
-      go (refused r) d b e = absurd (true≢false d)
-
--- the candidate law: where some case fails, the cell of every listed fault is a candidate
-pub shown-candidate : (s t : List ℕ) (m : Model) (f : ℕ) → Shows s t m → someFails (m .head) (m .cells) (casesHeld m) ≡ true
-    → has f (listOf s t) ≡ true → isCandidate (machineOf s) (cases s) (cellOf (headOf s) f) ≡ true
-shown-candidate s t m f k bad listed =
-    candidate-listed s t f (k .formed) (k .true-tallies) ((λ i. someFails (k .same-head i) (k .same-cells i) (shown-cases s t m k i)) ∙ bad) listed
-
--- cases that can be run can be recorded
-good-recordable : (h : Head) (cs : List Case) → allGood h cs ≡ true → AllRecordable cs
-unfolding allGood every
-good-recordable h [] e = tt
-good-recordable h (c ∷ cs) e =
-    let g = and-true (goodCase h (c .inputs) (c .outputs)) _ e in
-    let k = case-in h (c .inputs) (c .outputs) (g .0) in
-    (record { some-steps = k .some-steps; few-steps = k .few-steps; even = k .even }, good-recordable h cs (g .1))
-
--- what is saved loads again as the same cases
-pub shown-saved : (s t : List ℕ) (m : Model) → Shows s t m
-    → (recordRead (recordFile (cases s)) ≡ Record (length (casesHeld m))) × (casesIn (recordFile (cases s)) ≡ casesHeld m)
-shown-saved s t m k =
-    let same = shown-cases s t m k in
-    let back = record-reads-back (cases s) (cases-most s) (good-recordable (headOf s) (cases s) (cases-good s t (k .formed))) in
-    (back .0 ∙ ap (λ (cs : List Case). Record (length cs)) same, back .1 ∙ same)
-
--- a call that changes one case
-abbrev pub OneCase : Call → Type 0
-OneCase (start file) = ⊥
-OneCase (add c) = Unit {0}
-OneCase (amend p c) = Unit {0}
-OneCase (withdraw p) = Unit {0}
-OneCase (load file) = ⊥
-
--- tally f of a memory
-abbrev pub tallyIn : Memory → ℕ → ℕ
-tallyIn (memory s t) f = getD t f 0
-
--- two numbers at most one apart
-abbrev pub WithinOne : ℕ → ℕ → Type 0
-WithinOne a b = (a ≤ b + 1) × (b ≤ a + 1)
-
--- a number of a list that is changed from its start on stays, or has its change
-edit-either : (g : ℕ → ℕ → ℕ) (n : ℕ) (l : List ℕ) (f : ℕ)
-    → (getD (edit g 0 n l) f 0 ≡ getD l f 0) ⊎ (getD (edit g 0 n l) f 0 ≡ g f (getD l f 0))
-edit-either g n l f = go (ltb f n) refl (ltb f (length l)) refl
-  where
-    go : (a : Bool) → ltb f n ≡ a → (b : Bool) → ltb f (length l) ≡ b
-        → (getD (edit g 0 n l) f 0 ≡ getD l f 0) ⊎ (getD (edit g 0 n l) f 0 ≡ g f (getD l f 0))
-    go true ea true eb =
-        let there = ltb-true f (length l) eb in
-        inr (rw zero-add at (edit-in g 0 n l f (ltb-true f n ea) (omega arith)))
-    go true ea false eb =
-        let past = ltb-false f (length l) eb in
-        let same = length-edit g 0 n l in
-        inl (List·getD-eq-default (edit g 0 n l) 0 {n = f} (omega arith) ∙ sym (List·getD-eq-default l 0 past))
-    go false ea b eb = let past = ltb-false f n ea in inl (edit-out-above g 0 n l f (omega arith))
-
--- a case counted in adds to each tally at most one,
-raised-few : (s : List ℕ) (c : Case) (t : List ℕ) (f : ℕ) → (getD t f 0 ≤ getD (raised s c t) f 0) × (getD (raised s c t) f 0 ≤ getD t f 0 + 1)
-unfolding raised
-raised-few s c t f = go (edit-either (λ f old. old + miss s c f) (numbers (headOf s)) t f) (miss-few s c f)
-  where
-    go : (getD (raised s c t) f 0 ≡ getD t f 0) ⊎ (getD (raised s c t) f 0 ≡ getD t f 0 + miss s c f) → miss s c f ≤ 1
-        → (getD t f 0 ≤ getD (raised s c t) f 0) × (getD (raised s c t) f 0 ≤ getD t f 0 + 1)
-    go (inl e) few = (omega arith, omega arith)
-    go (inr e) few = (omega arith, omega arith)
-
--- and one counted out takes at most one away
-lowered-few : (s : List ℕ) (c : Case) (t : List ℕ) (f : ℕ) → (getD t f 0 ≤ getD (lowered s c t) f 0 + 1) × (getD (lowered s c t) f 0 ≤ getD t f 0)
-unfolding lowered
-lowered-few s c t f = go (edit-either (λ f old. old - miss s c f) (numbers (headOf s)) t f) (miss-few s c f)
-  where
-    go : (getD (lowered s c t) f 0 ≡ getD t f 0) ⊎ (getD (lowered s c t) f 0 ≡ getD t f 0 - miss s c f) → miss s c f ≤ 1
-        → (getD t f 0 ≤ getD (lowered s c t) f 0 + 1) × (getD (lowered s c t) f 0 ≤ getD t f 0)
-    go (inl e) few = (omega arith, omega arith)
-    go (inr e) few = (omega arith, omega arith)
-
--- a call that is refused moves no tally
-outcome-within : (v : Ruling Refusal) (n : ℕ) (s t s′ t′ : List ℕ) (f : ℕ) → WithinOne (getD t f 0) (getD t′ f 0)
-    → WithinOne (getD t f 0) (tallyIn (left (outcomeOr v n s t s′ t′)) f)
-outcome-within fine n s t s′ t′ f w = w
-outcome-within (refused r) n s t s′ t′ f w = (omega arith, omega arith)
-
--- one case held more moves no tally by more than one: each case of a load too
-pub one-held : (s : List ℕ) (c : Case) (t : List ℕ) (f : ℕ) → WithinOne (getD t f 0) (getD (raised s c t) f 0)
-one-held s c t f = let r = raised-few s c t f in (omega arith, omega arith)
-
--- changing one case moves no tally by more than one
-pub one-case : (c : Call) → OneCase c → (s t : List ℕ) (m : Model) → Shows s t m
-    → (f : ℕ) → WithinOne (tallyIn (memory s t) f) (tallyIn (carried c (memory s t)) f)
-unfolding carried addCall amendCall withdrawCall
-one-case (start file) one s t m k f = absurd one
-one-case (add c) one s t m k f =
-    outcome-within (ruling (addRules s t c)) (freePlace s) s t (placed s (freePlace s) c) (raised s c t) f (one-held s c t f)
-one-case (amend p c) one s t m k f =
-    let l = lowered-few s (caseOf s p) t f in
-    let r = raised-few s c (lowered s (caseOf s p) t) f in
-    outcome-within (ruling (amendRules s t p c)) 0 s t (placed s p c) (raised s c (lowered s (caseOf s p) t)) f (omega arith, omega arith)
-one-case (withdraw p) one s t m k f =
-    let l = lowered-few s (caseOf s p) t f in
-    outcome-within (ruling (withdrawRules s t p)) 0 s t (placed s p noCase) (lowered s (caseOf s p) t) f (omega arith, omega arith)
-one-case (load file) one s t m k f = absurd one

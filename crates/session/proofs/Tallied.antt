@@ -15,8 +15,8 @@ use Rattle.shapes.proofs.Tests.{and-true}
 use Rattle.machine.specs.Head.{numbers}
 use Rattle.machine.specs.Case.{Case}
 use Rattle.diagnosis.specs.Diagnosis.{misses}
-use Rattle.session.specs.Layout.{headOf, cellsOf, caseOf, cases}
-use Rattle.session.specs.Calls.{miss, canTake, raised, lowered}
+use Rattle.memory.specs.Layout.{headOf, cellsOf, caseOf, cases}
+use Rattle.session.specs.Tallies.{miss, canTake, raised, lowered}
 
 -- a number in use has its miss added
 pub raised-in : (s : List ℕ) (c : Case) (t : List ℕ) (f : ℕ) → f < numbers (headOf s) → f < length t → getD (raised s c t) f 0 ≡ getD t f 0 + miss s c f

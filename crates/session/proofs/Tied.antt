@@ -7,7 +7,8 @@ use contract.Lifetimes.{Lfts}
 use borrow.Fn.Kinds.{PK, RK, Dens, Out, resT, endedOf}
 use denote.Triple.Clauses.{Lasts, atExit}
 use denote.Ref.{now}
-use Rattle.session.specs.History.{Call, memory, left, carried}
+use Rattle.session.specs.Calls.{offered}
+use Rattle.session.specs.History.{Call, memory, left, called}
 use Rattle.session.proofs.calls.start.Kinds as start-kinds
 use Rattle.session.proofs.calls.start.Reads as start-reads
 use Rattle.session.proofs.calls.add.Kinds as add-kinds
@@ -26,26 +27,26 @@ Leaves {n} ps r Post so =
     → so κs a ws
 
 pub start-tied : Leaves start-kinds.ps start-kinds.r start-reads.Post
-    (λ κs a ws. memory (ws .0) (ws .1 .0) ≡ carried (Call.start (now (a .1 .1 .0))) (memory (now (a .0)) (now (a .1 .0))))
-unfolding carried
+    (λ κs a ws. memory (ws .0) (ws .1 .0) ≡ called (Call.start (now (a .1 .1 .0))) (memory (now (a .0)) (now (a .1 .0))))
+unfolding called
 start-tied κs a z ws p = ap left p
 
 pub add-tied : Leaves add-kinds.ps add-kinds.r add-reads.Post
-    (λ κs a ws. memory (ws .0) (ws .1 .0) ≡ carried (Call.add (record { inputs = now (a .1 .1 .0); outputs = now (a .1 .1 .1 .0) })) (memory (now (a .0)) (now (a .1 .0))))
-unfolding carried
+    (λ κs a ws. memory (ws .0) (ws .1 .0) ≡ called (Call.add (offered (now (a .1 .1 .0)) (now (a .1 .1 .1 .0)))) (memory (now (a .0)) (now (a .1 .0))))
+unfolding called
 add-tied κs a z ws p = ap left p
 
 pub withdraw-tied : Leaves withdraw-kinds.ps withdraw-kinds.r withdraw-reads.Post
-    (λ κs a ws. memory (ws .0) (ws .1 .0) ≡ carried (Call.withdraw (a .1 .1 .0)) (memory (now (a .0)) (now (a .1 .0))))
-unfolding carried
+    (λ κs a ws. memory (ws .0) (ws .1 .0) ≡ called (Call.withdraw (a .1 .1 .0)) (memory (now (a .0)) (now (a .1 .0))))
+unfolding called
 withdraw-tied κs a z ws p = ap left p
 
 pub amend-tied : Leaves amend-kinds.ps amend-kinds.r amend-reads.Post
-    (λ κs a ws. memory (ws .0) (ws .1 .0) ≡ carried (Call.amend (a .1 .1 .0) (record { inputs = now (a .1 .1 .1 .0); outputs = now (a .1 .1 .1 .1 .0) })) (memory (now (a .0)) (now (a .1 .0))))
-unfolding carried
+    (λ κs a ws. memory (ws .0) (ws .1 .0) ≡ called (Call.amend (a .1 .1 .0) (offered (now (a .1 .1 .1 .0)) (now (a .1 .1 .1 .1 .0)))) (memory (now (a .0)) (now (a .1 .0))))
+unfolding called
 amend-tied κs a z ws p = ap left p
 
 pub load-tied : Leaves load-kinds.ps load-kinds.r load-reads.Post
-    (λ κs a ws. memory (ws .0) (ws .1 .0) ≡ carried (Call.load (now (a .1 .1 .0))) (memory (now (a .0)) (now (a .1 .0))))
-unfolding carried
+    (λ κs a ws. memory (ws .0) (ws .1 .0) ≡ called (Call.load (now (a .1 .1 .0))) (memory (now (a .0)) (now (a .1 .0))))
+unfolding called
 load-tied κs a z ws p = ap left p

@@ -18,14 +18,17 @@ use Rattle.machine.specs.declared.head.Head.{Head}
 use Rattle.house.specs.Table.{tableRead}
 use Rattle.house.specs.declared.table.TableFile.the-variants.{Table}
 use Rattle.house.proofs.Tables.{table-known}
-use Rattle.diagnosis.specs.Diagnosis.{misses, tally, allGood}
-use Rattle.session.specs.Layout.{placesMost, sessionSize, talliesSize, headOf, cellsOf, caseOf, cases, freePlace, noCase}
-use Rattle.session.specs.Form.{Formed, TrueTallies}
-use Rattle.session.specs.Calls.{isSlot, miss, canTake, raised, lowered, placed, started, cleared, loadedSession, loadedTallies}
-use Rattle.session.proofs.Formed.{free-low}
-use Rattle.session.proofs.Stored.{Fits, no-fits, head-placed, cells-placed}
+use Rattle.diagnosis.specs.Diagnosis.{misses, tally}
+use Rattle.memory.specs.Layout.{placesMost, sessionSize, talliesSize, headOf, cellsOf, caseOf, cases, freePlace, noCase}
+use Rattle.memory.specs.Form.{Formed, isSlot}
+use Rattle.session.specs.Tallies.{TrueTallies, miss, canTake, raised, lowered}
+use Rattle.memory.specs.Store.{placed, started, cleared}
+use Rattle.memory.proofs.Formed.{free-low}
+use Rattle.memory.proofs.Stored.{Fits, no-fits, head-placed, cells-placed}
 use Rattle.session.proofs.Tallied.{raised-in, lowered-in, length-lowered}
-use Rattle.session.proofs.Kept.{OneMore, length-more, count-more, good-fits, slot-inside, slot-held, cases-taken, cases-free, cases-put, load-adds, numbers-few, formed-numbers, started-none, table-short, started-table, cleared-zero}
+use Rattle.memory.proofs.Held.{OneMore, length-more, count-more, good-fits, slot-inside, slot-held, cases-taken, cases-free, cases-put, formed-numbers}
+use Rattle.machine.proofs.Sound.{numbers-few}
+use Rattle.memory.proofs.Started.{started-none, table-short, started-table, cleared-zero}
 
 -- each tally in use is there
 tally-there : (s t : List ℕ) → Formed s t → (f : ℕ) → f < numbers (headOf s) → f < length t
@@ -114,11 +117,6 @@ amend-true s t p c k now slot g = true-placed s (k .session-room) p inside c (go
     each f m =
         let there : f < length less = rw (length-lowered s (caseOf s p) t) (tally-there s t k f m) in
         rw (raised-in s c less f m there, tally-taken s t p k now slot f m, tally-more s (cases-put s t k p inside c g) f) (omega arith)
-
--- a load is adds
-pub load-true : (s t : List ℕ) (cs : List Case) → Formed s t → TrueTallies s t → allGood (headOf s) cs ≡ true
-    → length (cases s) + length cs ≤ placesMost → TrueTallies (loadedSession s cs) (loadedTallies s cs t)
-load-true = load-adds TrueTallies add-true
 
 -- and after a start the tallies are true
 pub start-true : (s t file : List ℕ) (h : Head) → sessionSize ≤ length s → talliesSize ≤ length t → tableRead file ≡ Table h

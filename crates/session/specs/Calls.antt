@@ -2,24 +2,20 @@
 -- is done where none refuses. A refusal leaves both buffers as they were.
 use Prim.Native.Nat.{ℕ, _+_, _-_}
 use mathlib.Core.List.{List, [], _∷_, _++_}
-use mathlib.Core.Bool.{Bool, not, _&&_}
+use mathlib.Core.Bool.{not}
 use lib.Dec.{ltb, leb}
-use lib.ListN.{length, getD}
-use Rattle.shapes.specs.First.{allTo}
-use Rattle.shapes.specs.Edit.{edit}
-use Rattle.shapes.specs.Keep.{bit}
+use lib.ListN.{length}
 use Rattle.shapes.specs.Refusals.{Rule, when, Ruling, fine, refused, ruling}
-use Rattle.machine.specs.Head.{numbers}
-use Rattle.machine.specs.Case.{Case}
-use Rattle.house.specs.File.{restAt}
+use Rattle.machine.specs.Case.{Case, asCase}
 use Rattle.house.specs.Table.{tableRules}
-use Rattle.house.specs.Cases.{recordRules, casesIn, caseRules, casesRules}
+use Rattle.house.specs.Cases.{recordRules, casesIn, alone, caseRules, casesRules}
 use Rattle.house.specs.declared.refusal.Refusal.{Refusal}
-use Rattle.house.specs.declared.refusal.Refusal.the-variants.{Short, Full, Slot, Damaged}
+use Rattle.house.specs.declared.refusal.Refusal.the-variants.{Full, Damaged}
 use Rattle.house.specs.declared.refusal.Answer as Answer-type
-use Rattle.diagnosis.specs.Diagnosis.{misses}
-use Rattle.session.specs.Layout.{placesMost, placeSize, sessionSize, talliesSize, headOf, cellsOf, placeAt, isHeld, caseOf, cases, freePlace, placeByte, noCase}
-use Rattle.session.specs.Form.{wellFormed}
+use Rattle.memory.specs.Layout.{placesMost, headOf, caseOf, cases, freePlace, noCase}
+use Rattle.memory.specs.Form.{roomRules, formRules, slotRules}
+use Rattle.session.specs.Tallies.{canTake, raised, lowered}
+use Rattle.memory.specs.Store.{placed, started, cleared}
 
 -- what a call answers, with what it leaves in the session and in the tallies
 pub data Outcome : Type 0 where
@@ -30,60 +26,27 @@ abbrev pub outcomeOr : Ruling Refusal → ℕ → List ℕ → List ℕ → List
 outcomeOr fine n s t s′ t′ = after (Answer-type.the-variants.Done n) s′ t′
 outcomeOr (refused r) n s t s′ t′ = after (Answer-type.the-variants.Refused r) s t
 
--- "SHORT for session and tallies"
-unfoldable pub roomRules : List ℕ → List ℕ → List (Rule Refusal)
-roomRules s t = when (ltb (length s) sessionSize) (Short 0) ∷ when (ltb (length t) talliesSize) (Short 0) ∷ []
-
--- "then (except at start) DAMAGED for form"
-unfoldable pub formRules : List ℕ → List ℕ → List (Rule Refusal)
-formRules s t = roomRules s t ++ (when (not (wellFormed s t)) Damaged ∷ [])
-
--- then SLOT: "place over 63 or free"
-unfoldable pub isSlot : List ℕ → ℕ → Bool
-isSlot s p = ltb p placesMost && isHeld s p
-
-unfoldable pub slotRules : List ℕ → List ℕ → ℕ → List (Rule Refusal)
-slotRules s t p = formRules s t ++ (when (not (isSlot s p)) Slot ∷ [])
-
--- 1 where number f's machine misses a case, else 0
-unfoldable pub miss : List ℕ → Case → ℕ → ℕ
-miss s c f = bit (misses (headOf s) (cellsOf s) f c)
-
--- "taking the old case away would bring a tally below 0 or leave one above the count of the cases then left"
-unfoldable pub canTake : List ℕ → List ℕ → ℕ → Bool
-canTake s t p =
-    allTo (λ f. leb (miss s (caseOf s p) f) (getD t f 0) && leb (getD t f 0 - miss s (caseOf s p) f) (length (cases s) - 1)) (numbers (headOf s))
-
--- each tally with a case counted in, and with one counted out
-unfoldable pub raised : List ℕ → Case → List ℕ → List ℕ
-raised s c t = edit (λ f old. old + miss s c f) 0 (numbers (headOf s)) t
-
-unfoldable pub lowered : List ℕ → Case → List ℕ → List ℕ
-lowered s c t = edit (λ f old. old - miss s c f) 0 (numbers (headOf s)) t
-
--- a place with a case in it; with no case it is zeroed
-unfoldable pub placed : List ℕ → ℕ → Case → List ℕ
-placed s p c = edit (λ i old. placeByte c i) (placeAt p) placeSize s
-
--- start: "copies the table in and clears places and tallies". What follows the length field of a table file is what a session begins with.
-unfoldable pub started : List ℕ → List ℕ → List ℕ
-started s file = edit (λ i old. getD file (restAt + i) 0) 0 sessionSize s
-
-unfoldable pub cleared : List ℕ → List ℕ
-cleared t = edit (λ f old. 0) 0 talliesSize t
-
+-- start: "takes a table file, copies the table in and clears places and tallies"
 unfoldable pub startRules : List ℕ → List ℕ → List ℕ → List (Rule Refusal)
 startRules s t file = roomRules s t ++ tableRules file
 
 unfoldable pub startCall : List ℕ → List ℕ → List ℕ → Outcome
 startCall s t file = outcomeOr (ruling (startRules s t file)) 0 s t (started s file) (cleared t)
 
--- add: "uses the lowest free place .. and answers the place"
-unfoldable pub addRules : List ℕ → List ℕ → Case → List (Rule Refusal)
-addRules s t c = formRules s t ++ (caseRules (headOf s) c ++ (when (leb placesMost (freePlace s)) Full ∷ []))
+-- what is offered to be held: a case
+pub record Offer : Type 0 where
+  pub case : Case
 
-unfoldable pub addCall : List ℕ → List ℕ → Case → Outcome
-addCall s t c = outcomeOr (ruling (addRules s t c)) (freePlace s) s t (placed s (freePlace s) c) (raised s c t)
+-- what two slices offer: the case of them
+abbrev pub offered : List ℕ → List ℕ → Offer
+offered is ys = record { case = asCase is ys }
+
+-- add: "uses the lowest free place .. and answers the place"
+unfoldable pub addRules : List ℕ → List ℕ → Offer → List (Rule Refusal)
+addRules s t o = formRules s t ++ (caseRules (headOf s) alone (o .case) ++ (when (leb placesMost (freePlace s)) Full ∷ []))
+
+unfoldable pub addCall : List ℕ → List ℕ → Offer → Outcome
+addCall s t o = outcomeOr (ruling (addRules s t o)) (freePlace s) s t (placed s (freePlace s) (o .case)) (raised s (o .case) t)
 
 -- withdraw: "zeroes it"
 unfoldable pub withdrawRules : List ℕ → List ℕ → ℕ → List (Rule Refusal)
@@ -93,11 +56,12 @@ unfoldable pub withdrawCall : List ℕ → List ℕ → ℕ → Outcome
 withdrawCall s t p = outcomeOr (ruling (withdrawRules s t p)) 0 s t (placed s p noCase) (lowered s (caseOf s p) t)
 
 -- amend: "keeps its place"
-unfoldable pub amendRules : List ℕ → List ℕ → ℕ → Case → List (Rule Refusal)
-amendRules s t p c = slotRules s t p ++ (caseRules (headOf s) c ++ (when (not (canTake s t p)) Damaged ∷ []))
+unfoldable pub amendRules : List ℕ → List ℕ → ℕ → Offer → List (Rule Refusal)
+amendRules s t p o = slotRules s t p ++ (caseRules (headOf s) alone (o .case) ++ (when (not (canTake s t p)) Damaged ∷ []))
 
-unfoldable pub amendCall : List ℕ → List ℕ → ℕ → Case → Outcome
-amendCall s t p c = outcomeOr (ruling (amendRules s t p c)) 0 s t (placed s p c) (raised s c (lowered s (caseOf s p) t))
+unfoldable pub amendCall : List ℕ → List ℕ → ℕ → Offer → Outcome
+amendCall s t p o =
+    outcomeOr (ruling (amendRules s t p o)) 0 s t (placed s p (o .case)) (raised s (o .case) (lowered s (caseOf s p) t))
 
 -- load: "adds a record's cases in order, all or none"
 unfoldable pub loadedSession : List ℕ → List Case → List ℕ
@@ -110,7 +74,7 @@ loadedTallies s (c ∷ cs) t = loadedTallies s cs (raised s c t)
 
 -- then FULL: "fewer free places than cases to add"
 unfoldable pub roomForRules : List ℕ → List Case → List (Rule Refusal)
-roomForRules s cs = casesRules (headOf s) cs ++ (when (ltb (placesMost - length (cases s)) (length cs)) Full ∷ [])
+roomForRules s cs = casesRules (headOf s) alone cs ++ (when (ltb (placesMost - length (cases s)) (length cs)) Full ∷ [])
 
 unfoldable pub loadRules : List ℕ → List ℕ → List ℕ → List (Rule Refusal)
 loadRules s t file = formRules s t ++ (recordRules file ++ roomForRules s (casesIn file))

@@ -8,22 +8,22 @@ use lib.Dec.{eqb, ltb, leb}
 use lib.ListN.{length, getD, replicate}
 use Rattle.shapes.specs.First.{first}
 use Rattle.shapes.specs.Edit.{edit}
-use Rattle.machine.specs.Case.{Case, goodCase}
+use Rattle.machine.specs.Case.{Case, goodCase, allGood}
 use Rattle.machine.specs.declared.head.Head.{Head}
 use Rattle.house.specs.Table.{tableRead, cellsIn}
 use Rattle.house.specs.Cases.{recordRead, casesIn}
 use Rattle.house.specs.declared.table.TableFile as TableFile-type
 use Rattle.house.specs.declared.cases.RecordFile as RecordFile-type
-use Rattle.diagnosis.specs.Diagnosis.{allGood}
-use Rattle.session.specs.Layout.{placesMost, cellsRoom, headOf, cellsOf, isHeld, caseOf}
-use Rattle.session.specs.Form.{Formed, TrueTallies}
-use Rattle.session.specs.Calls.{Outcome, after, startCall, addCall, amendCall, withdrawCall, loadCall}
+use Rattle.memory.specs.Layout.{placesMost, cellsRoom, headOf, cellsOf, isHeld, caseOf}
+use Rattle.memory.specs.Form.{Formed}
+use Rattle.session.specs.Tallies.{TrueTallies}
+use Rattle.session.specs.Calls.{Outcome, after, Offer, startCall, addCall, amendCall, withdrawCall, loadCall}
 
 -- a call that changes a session, with any arguments whatever
 pub data Call : Type 0 where
   start : List ℕ → Call
-  add : Case → Call
-  amend : ℕ → Case → Call
+  add : Offer → Call
+  amend : ℕ → Offer → Call
   withdraw : ℕ → Call
   load : List ℕ → Call
 
@@ -31,65 +31,65 @@ pub data Call : Type 0 where
 pub data Memory : Type 0 where
   memory : List ℕ → List ℕ → Memory
 
--- what a call leaves
+-- the memory that an outcome leaves
 abbrev pub left : Outcome → Memory
 left (after a s t) = memory s t
 
--- a call carried out, by the definitions that the contracts cite
-unfoldable pub carried : Call → Memory → Memory
-carried (start file) (memory s t) = left (startCall s t file)
-carried (add c) (memory s t) = left (addCall s t c)
-carried (amend p c) (memory s t) = left (amendCall s t p c)
-carried (withdraw p) (memory s t) = left (withdrawCall s t p)
-carried (load file) (memory s t) = left (loadCall s t file)
+-- what a call leaves of a memory, by the definitions that the contracts cite
+unfoldable pub called : Call → Memory → Memory
+called (start file) (memory s t) = left (startCall s t file)
+called (add o) (memory s t) = left (addCall s t o)
+called (amend p o) (memory s t) = left (amendCall s t p o)
+called (withdraw p) (memory s t) = left (withdrawCall s t p)
+called (load file) (memory s t) = left (loadCall s t file)
 
--- calls carried out one after the other
-unfoldable pub carriedAll : List Call → Memory → Memory
-carriedAll [] m = m
-carriedAll (c ∷ cs) m = carriedAll cs (carried c m)
+-- and calls, one after the other
+unfoldable pub calledAll : List Call → Memory → Memory
+calledAll [] m = m
+calledAll (c ∷ cs) m = calledAll cs (called c m)
 
--- a place: free, or holding a case
-pub data Slot : Type 0 where
-  free : Slot
-  holds : Case → Slot
+-- what a place holds: nothing, or a case
+pub data Content : Type 0 where
+  free : Content
+  holds : Case → Content
 
 -- the model: a table, and what each place holds
 pub record Model : Type 0 where
   pub head : Head
   pub cells : List ℕ
-  pub at : ℕ → Slot
+  pub at : ℕ → Content
 
--- whether a slot holds a case, and the cases of slots by rising place
-abbrev pub isHolding : Slot → Bool
+-- whether a place holds a case, the cases of one place, and those of places by rising number
+abbrev pub isHolding : Content → Bool
 isHolding free = false
 isHolding (holds c) = true
 
-abbrev pub slotCases : Slot → List Case
-slotCases free = []
-slotCases (holds c) = c ∷ []
+abbrev pub contentCases : Content → List Case
+contentCases free = []
+contentCases (holds c) = c ∷ []
 
-unfoldable pub casesTo : (ℕ → Slot) → ℕ → List Case
+unfoldable pub casesTo : (ℕ → Content) → ℕ → List Case
 casesTo at zero = []
-casesTo at (suc n) = casesTo at n ++ slotCases (at n)
+casesTo at (suc n) = casesTo at n ++ contentCases (at n)
 
 unfoldable pub casesHeld : Model → List Case
 casesHeld m = casesTo (m .at) placesMost
 
 -- the lowest free place; 64 where none is free
-unfoldable pub lowest : (ℕ → Slot) → ℕ
+unfoldable pub lowest : (ℕ → Content) → ℕ
 lowest at = first (λ p. not (isHolding (at p))) 0 placesMost
 
 -- one place changed
-abbrev pub put : (ℕ → Slot) → ℕ → Slot → ℕ → Slot
+abbrev pub put : (ℕ → Content) → ℕ → Content → ℕ → Content
 put at p x q = cond (eqb q p) x (at q)
 
 -- cases put into the lowest free places, in order
-unfoldable pub putAll : (ℕ → Slot) → List Case → ℕ → Slot
+unfoldable pub putAll : (ℕ → Content) → List Case → ℕ → Content
 putAll at [] = at
 putAll at (c ∷ cs) = putAll (put at (lowest at) (holds c)) cs
 
 -- the model with other places
-abbrev pub withPlaces : Model → (ℕ → Slot) → Model
+abbrev pub withPlaces : Model → (ℕ → Content) → Model
 withPlaces m at = record { head = m .head; cells = m .cells; at = at }
 
 -- "512 bytes of cells, zero after those used"
@@ -116,8 +116,10 @@ loadOr (RecordFile-type.the-variants.Refused r) cs m = m
 
 unfoldable pub step : Call → Model → Model
 step (start file) m = startOr (tableRead file) file m
-step (add c) m = cond (fitsTable m c && ltb (lowest (m .at)) placesMost) (withPlaces m (put (m .at) (lowest (m .at)) (holds c))) m
-step (amend p c) m = cond ((ltb p placesMost && isHolding (m .at p)) && fitsTable m c) (withPlaces m (put (m .at) p (holds c))) m
+step (add o) m =
+    cond (fitsTable m (o .case) && ltb (lowest (m .at)) placesMost) (withPlaces m (put (m .at) (lowest (m .at)) (holds (o .case)))) m
+step (amend p o) m =
+    cond ((ltb p placesMost && isHolding (m .at p)) && fitsTable m (o .case)) (withPlaces m (put (m .at) p (holds (o .case)))) m
 step (withdraw p) m = cond (ltb p placesMost && isHolding (m .at p)) (withPlaces m (put (m .at) p free)) m
 step (load file) m = loadOr (recordRead file) (casesIn file) m
 
@@ -126,8 +128,8 @@ steps [] m = m
 steps (c ∷ cs) m = steps cs (step c m)
 
 -- what a place of the memory holds
-unfoldable pub slotOf : List ℕ → ℕ → Slot
-slotOf s p = cond (isHeld s p) (holds (caseOf s p)) free
+unfoldable pub contentOf : List ℕ → ℕ → Content
+contentOf s p = cond (isHeld s p) (holds (caseOf s p)) free
 
 -- the memory is well-formed, its tallies are true, and it holds what the model holds
 pub record Shows (s t : List ℕ) (m : Model) : Type 0 where
@@ -135,4 +137,4 @@ pub record Shows (s t : List ℕ) (m : Model) : Type 0 where
   pub true-tallies : TrueTallies s t
   pub same-head : headOf s ≡ m .head
   pub same-cells : cellsOf s ≡ m .cells
-  pub same-places : (p : ℕ) → p < placesMost → slotOf s p ≡ m .at p
+  pub same-places : (p : ℕ) → p < placesMost → contentOf s p ≡ m .at p

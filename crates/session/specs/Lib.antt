@@ -1,5 +1,3 @@
-pub mod Layout
-pub mod Form
+pub mod Tallies
 pub mod Calls
-pub mod Reads
 pub mod History

@@ -1,17 +1,9 @@
 // The calls that change a session (document 01, "Session memory", Order): start, add, amend, withdraw and load. Each first checks for
 // itself, on shared references, so that a refusal changes nothing.
-use crate::form::check_form;
-use crate::form::check_room;
-use crate::layout::Place;
-use crate::layout::count_held;
-use crate::layout::free_place;
-use crate::layout::head_of;
-use crate::store::clear_tallies;
-use crate::store::store_case;
-use crate::store::store_table;
 use crate::tally::can_lower;
 use crate::tally::lower;
 use crate::tally::raise;
+use house::cases::About;
 use house::cases::RecordFile;
 use house::cases::check_case;
 use house::cases::check_cases;
@@ -23,19 +15,31 @@ use house::refusal::Refusal;
 use house::table::TableFile;
 use house::table::read_table;
 use machine::replay::Replay;
+use memory::form::check_form;
+use memory::form::check_room;
+use memory::form::check_slot;
+use memory::layout::Place;
+use memory::layout::count_held;
+use memory::layout::free_place;
+use memory::layout::head_of;
+use memory::store::clear_place;
+use memory::store::clear_tallies;
+use memory::store::store_case;
+use memory::store::store_table;
 use shapes::byte;
 ghost use mathlib.Core.Path.{_≡_};
 ghost use mathlib.Core.Bool.{true};
 ghost use Prim.Native.Nat.{_+_, _≤_, _<_};
 ghost use lib.ListN.{length};
 ghost use Rattle.shapes.specs.Refusals.{ruling, fine};
-ghost use Rattle.machine.specs.Case.{goodCase};
+ghost use Rattle.machine.specs.Case.{asCase, goodCase, allGood};
 ghost use Rattle.house.specs.Refusal.{checked};
 ghost use Rattle.house.specs.Cases.{recordRules, recordOr, casesIn, countIn, countOf};
-ghost use Rattle.diagnosis.specs.Diagnosis.{allGood};
-ghost use Rattle.session.specs.Layout.{placesMost, sessionSize, headOf, caseOf, cases, freePlace, noCase};
-ghost use Rattle.session.specs.Form.{Formed};
-ghost use Rattle.session.specs.Calls.{after, isSlot, canTake, raised, lowered, placed, startRules, startCall, addRules, addCall, slotRules, withdrawRules, withdrawCall, amendRules, amendCall, roomForRules, loadRules, loadCall, loadedSession, loadedTallies};
+ghost use Rattle.memory.specs.Layout.{placesMost, sessionSize, headOf, caseOf, cases, freePlace};
+ghost use Rattle.memory.specs.Form.{Formed, isSlot};
+ghost use Rattle.memory.specs.Store.{placed};
+ghost use Rattle.session.specs.Tallies.{canTake, raised, lowered};
+ghost use Rattle.session.specs.Calls.{after, offered, startRules, startCall, addRules, addCall, withdrawRules, withdrawCall, amendRules, amendCall, roomForRules, loadRules, loadCall, loadedSession, loadedTallies};
 
 // The refusal of a start.
 fn check_start(session: &[u8], tallies: &[u16], file: &[u8]) -> Checked
@@ -67,13 +71,13 @@ pub fn start(session: &mut [u8], tallies: &mut [u16], file: &[u8]) -> Answer
 
 // The refusal of an addition.
 fn check_add(session: &[u8], tallies: &[u16], inputs: &[u8], outputs: &[u8]) -> Checked
-    ensures { λ r. ⌜ r ≡ checked (ruling (addRules (now (session .entry)) (now (tallies .entry)) (record { inputs = now (inputs .entry); outputs = now (outputs .entry) }))) ⌝ }
+    ensures { λ r. ⌜ r ≡ checked (ruling (addRules (now (session .entry)) (now (tallies .entry)) (offered (now (inputs .entry)) (now (outputs .entry))))) ⌝ }
 {
     let found = check_form(session, tallies);
     if let Checked::Refused(refusal) = found {
         return Checked::Refused(refusal);
     }
-    let fault = check_case(head_of(session), inputs, outputs);
+    let fault = check_case(head_of(session), About { position: 0 }, inputs, outputs);
     if let Checked::Refused(refusal) = fault {
         return Checked::Refused(refusal);
     }
@@ -89,8 +93,8 @@ fn hold(session: &mut [u8], tallies: &mut [u16], inputs: &[u8], outputs: &[u8]) 
     requires { ⌜ goodCase (headOf (now session)) (now inputs) (now outputs) ≡ true ⌝ }
     requires { ⌜ freePlace (now session) < placesMost ⌝ }
     ensures place { λ r. ⌜ r ≡ freePlace (now (session .entry)) ⌝ }
-    ensures stored { λ r. ⌜ now (session .exit) ≡ placed (now (session .entry)) (freePlace (now (session .entry))) (record { inputs = now (inputs .entry); outputs = now (outputs .entry) }) ⌝ }
-    ensures counted { λ r. ⌜ now (tallies .exit) ≡ raised (now (session .entry)) (record { inputs = now (inputs .entry); outputs = now (outputs .entry) }) (now (tallies .entry)) ⌝ }
+    ensures stored { λ r. ⌜ now (session .exit) ≡ placed (now (session .entry)) (freePlace (now (session .entry))) (asCase (now (inputs .entry)) (now (outputs .entry))) ⌝ }
+    ensures counted { λ r. ⌜ now (tallies .exit) ≡ raised (now (session .entry)) (asCase (now (inputs .entry)) (now (outputs .entry))) (now (tallies .entry)) ⌝ }
 {
     let place = free_place(session);
     raise(session, tallies, inputs, outputs);
@@ -100,31 +104,13 @@ fn hold(session: &mut [u8], tallies: &mut [u16], inputs: &[u8], outputs: &[u8]) 
 
 // Adds a case in the lowest free place, and answers the place.
 pub fn add(session: &mut [u8], tallies: &mut [u16], inputs: &[u8], outputs: &[u8]) -> Answer
-    ensures { λ r. ⌜ after r (now (session .exit)) (now (tallies .exit)) ≡ addCall (now (session .entry)) (now (tallies .entry)) (record { inputs = now (inputs .entry); outputs = now (outputs .entry) }) ⌝ }
+    ensures { λ r. ⌜ after r (now (session .exit)) (now (tallies .exit)) ≡ addCall (now (session .entry)) (now (tallies .entry)) (offered (now (inputs .entry)) (now (outputs .entry))) ⌝ }
 {
     let found = check_add(session, tallies, inputs, outputs);
     if let Checked::Refused(refusal) = found {
         return Answer::Refused(refusal);
     }
     Answer::Done(hold(session, tallies, inputs, outputs))
-}
-
-// The refusal of a place that holds no case.
-pub fn check_slot(session: &[u8], tallies: &[u16], place: usize) -> Checked
-    ensures { λ r. ⌜ r ≡ checked (ruling (slotRules (now (session .entry)) (now (tallies .entry)) place)) ⌝ }
-{
-    let found = check_form(session, tallies);
-    if let Checked::Refused(refusal) = found {
-        return Checked::Refused(refusal);
-    }
-    if Place::MOST <= place {
-        return Checked::Refused(Refusal::Slot);
-    }
-    let here = Place::of(session, place);
-    if here.steps == 0 {
-        return Checked::Refused(Refusal::Slot);
-    }
-    Checked::Fine
 }
 
 // Whether the case of a place can be counted out of the tallies.
@@ -180,16 +166,6 @@ fn check_withdraw(session: &[u8], tallies: &[u16], place: usize) -> Checked
     Checked::Fine
 }
 
-// Clears a place.
-fn clear_place(session: &mut [u8], place: usize)
-    requires { ⌜ (sessionSize ≤ length (now session)) × (place < placesMost) ⌝ }
-    ensures { λ _. ⌜ now (session .exit) ≡ placed (now (session .entry)) place noCase ⌝ }
-{
-    let zero = [0u8; 1];
-    let nothing = &zero[0..0];
-    store_case(session, place, nothing, nothing);
-}
-
 // Withdraws the case of a place.
 pub fn withdraw(session: &mut [u8], tallies: &mut [u16], place: usize) -> Answer
     ensures { λ r. ⌜ after r (now (session .exit)) (now (tallies .exit)) ≡ withdrawCall (now (session .entry)) (now (tallies .entry)) place ⌝ }
@@ -211,13 +187,13 @@ fn check_amend(
     inputs: &[u8],
     outputs: &[u8],
 ) -> Checked
-    ensures { λ r. ⌜ r ≡ checked (ruling (amendRules (now (session .entry)) (now (tallies .entry)) place (record { inputs = now (inputs .entry); outputs = now (outputs .entry) }))) ⌝ }
+    ensures { λ r. ⌜ r ≡ checked (ruling (amendRules (now (session .entry)) (now (tallies .entry)) place (offered (now (inputs .entry)) (now (outputs .entry))))) ⌝ }
 {
     let found = check_slot(session, tallies, place);
     if let Checked::Refused(refusal) = found {
         return Checked::Refused(refusal);
     }
-    let fault = check_case(head_of(session), inputs, outputs);
+    let fault = check_case(head_of(session), About { position: 0 }, inputs, outputs);
     if let Checked::Refused(refusal) = fault {
         return Checked::Refused(refusal);
     }
@@ -235,7 +211,7 @@ pub fn amend(
     inputs: &[u8],
     outputs: &[u8],
 ) -> Answer
-    ensures { λ r. ⌜ after r (now (session .exit)) (now (tallies .exit)) ≡ amendCall (now (session .entry)) (now (tallies .entry)) place (record { inputs = now (inputs .entry); outputs = now (outputs .entry) }) ⌝ }
+    ensures { λ r. ⌜ after r (now (session .exit)) (now (tallies .exit)) ≡ amendCall (now (session .entry)) (now (tallies .entry)) place (offered (now (inputs .entry)) (now (outputs .entry))) ⌝ }
 {
     let found = check_amend(session, tallies, place, inputs, outputs);
     if let Checked::Refused(refusal) = found {
@@ -254,7 +230,7 @@ fn check_room_for(session: &[u8], file: &[u8], count: usize) -> Checked
     requires { ⌜ count ≡ countOf (countIn (now file)) ⌝ }
     ensures { λ r. ⌜ r ≡ checked (ruling (roomForRules (now (session .entry)) (casesIn (now (file .entry))))) ⌝ }
 {
-    let fault = check_cases(head_of(session), file, count);
+    let fault = check_cases(head_of(session), About { position: 0 }, file, count);
     if let Checked::Refused(refusal) = fault {
         return Checked::Refused(refusal);
     }

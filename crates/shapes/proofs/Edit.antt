@@ -11,9 +11,9 @@ use native.Mathlib.Nat.{eq-or-lt-of-le, add-zero, add-suc, add-assoc}
 use native.Mathlib.Omega.{arith}
 use lib.Dec.{ltb}
 use borrow.Author.Tests.{ltb-true, ltb-false}
-use lib.ListN.{length, getD, set, take, drop, length-set, length-append, length-take, length-drop, List·getD-append}
-use lib.Seq.{set-getD, getD-set-same, getD-set-other, getD-take, getD-drop, getD-append-add, ext-getD, drop-cons}
-use Rattle.shapes.specs.Edit.{edit, filled}
+use lib.ListN.{length, getD, set, drop, length-set, length-append, List·getD-append}
+use lib.Seq.{set-getD, getD-set-same, getD-set-other, getD-append-add, ext-getD, drop-cons}
+use Rattle.shapes.specs.Edit.{edit, KeptFrom, filled}
 
 module _ (f : ℕ → ℕ → ℕ) (at : ℕ) where
   -- a loop's start: nothing is changed
@@ -131,11 +131,6 @@ pub filled-one : (l : List ℕ) (at x : ℕ) → filled l at (x ∷ []) ≡ set 
 unfolding filled
 filled-one l at x = rw add-zero
 
--- what stands before the place stays
-pub filled-below : (l : List ℕ) (at : ℕ) (v : List ℕ) (j : ℕ) → j < at → getD (filled l at v) j 0 ≡ getD l j 0
-unfolding filled
-filled-below l at v j h = edit-out-below (λ i old. getD v i 0) at (length v) l j h
-
 -- what stands after what was written stays
 pub filled-above : (l : List ℕ) (at : ℕ) (v : List ℕ) (j : ℕ) → at + length v ≤ j → getD (filled l at v) j 0 ≡ getD l j 0
 unfolding filled
@@ -145,18 +140,6 @@ filled-above l at v j h = edit-out-above (λ i old. getD v i 0) at (length v) l 
 pub filled-in : (l : List ℕ) (at : ℕ) (v : List ℕ) (i : ℕ) → i < length v → at + i < length l → getD (filled l at v) (at + i) 0 ≡ getD v i 0
 unfolding filled
 filled-in l at v i h s = edit-in (λ i old. getD v i 0) at (length v) l i h s
-
--- reading back what was written
-pub filled-take : (l : List ℕ) (at : ℕ) (v : List ℕ) → at + length v ≤ length l → take (length v) (drop at (filled l at v)) ≡ v
-filled-take l at v h = ext-getD 0 _ _ size each
-  where
-    size : length (take (length v) (drop at (filled l at v))) ≡ length v
-    size = simp (length-take, length-drop, length-filled) (omega arith)
-
-    each : (i : ℕ) → i < length (take (length v) (drop at (filled l at v))) → getD (take (length v) (drop at (filled l at v))) i 0 ≡ getD v i 0
-    each i s =
-        let s′ : i < length v = omega (arith, size) in
-        let t : at + i < length l = omega arith in rw (getD-take, getD-drop, filled-in)
 
 -- a list written, and then another right after it, is both written as one
 pub filled-append : (l : List ℕ) (at : ℕ) (v w : List ℕ) → filled (filled l at v) (at + length v) w ≡ filled l at (v ++ w)
@@ -177,3 +160,21 @@ filled-append l at v w = rw (length-append, ← edit-compose both at (length v) 
 pub drop-three : (l : List ℕ) (at : ℕ) → at + 3 ≤ length l → drop at l ≡ getD l at 0 ∷ getD l (at + 1) 0 ∷ getD l (at + 2) 0 ∷ drop (at + 3) l
 drop-three l at h =
     rw (add-one, add-two, add-three, drop-cons l at 0 (omega arith), drop-cons l (suc at) 0 (omega arith), drop-cons l (suc (suc at)) 0 (omega arith))
+
+-- nothing done leaves every tail,
+pub kept-all : (n : ℕ) (l : List ℕ) → KeptFrom n l l
+kept-all n l = record { same-length = refl; same-tail = λ i h. refl }
+
+-- and what leaves it and then leaves it again leaves it
+pub kept-then : {n : ℕ} {a b c : List ℕ} → KeptFrom n a b → KeptFrom n b c → KeptFrom n a c
+kept-then j k =
+    record { same-length = k .same-length ∙ j .same-length; same-tail = λ i h. k .same-tail i h ∙ j .same-tail i h }
+
+-- an edit leaves what stands after its part,
+pub edit-keeps : (f : ℕ → ℕ → ℕ) (at m n : ℕ) (l : List ℕ) → at + m ≤ n → KeptFrom n l (edit f at m l)
+edit-keeps f at m n l e = record { same-length = length-edit f at m l; same-tail = λ i h. edit-out-above f at m l i (omega arith) }
+
+-- and a list filled from its start has its tail from after what was written on
+pub filled-keeps : (l v : List ℕ) → KeptFrom (length v) l (filled l 0 v)
+filled-keeps l v =
+    record { same-length = length-filled l 0 v; same-tail = λ i h. filled-above l 0 v i (omega arith) }

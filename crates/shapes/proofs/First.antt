@@ -2,13 +2,12 @@
 -- Assumes nothing.
 use Prim.Native.Nat.{ℕ, zero, suc, _+_, _-_, _≤_, _<_}
 use mathlib.Core.Path.{_≡_, refl, sym, ap, _∙_}
-use mathlib.Core.Bool.{Bool, true, false, cond, not, true≢false, false≢true}
+use mathlib.Core.Bool.{Bool, true, false, cond, not, true≢false}
 use native.Mathlib.Numerals.{add-one}
 use mathlib.Core.Logic.{_⊎_, inl, inr}
 use native.Mathlib.Nat.{eq-or-lt-of-le}
 use native.Mathlib.Omega.{arith}
-use lib.Dec.{eqb, ltb}
-use borrow.Author.Tests.{eq-eqb, ne-eqb, eqb-true, ltb-true, ltb-false, not-true, not-false}
+use borrow.Author.Tests.{eq-eqb, ne-eqb, eqb-true, not-false}
 use Rattle.shapes.specs.First.{first, allTo}
 
 -- the places from `at` to below `n` are one more than those from the next place on
@@ -61,6 +60,13 @@ module _ (p : ℕ → Bool) where
       go true e rest h = e
       go false e rest h = rest (omega arith)
 
+  -- where it holds at none of them it is the place after them
+  pub first-none : (at left : ℕ) → ((i : ℕ) → at ≤ i → i < at + left → p i ≡ false) → first p at left ≡ at + left
+  unfolding first
+  first-none at zero none = omega arith
+  first-none at (suc left) none =
+      rw (none at (omega arith) (omega arith), first-none (suc at) left (λ i l k. none i (omega arith) (omega arith))) (omega arith)
+
   -- and it holds at none before
   pub first-before : (at left i : ℕ) → at ≤ i → i < first p at left → p i ≡ false
   unfolding first
@@ -82,17 +88,9 @@ first-same p q at (suc left) e = rw (e at (omega arith) (omega arith), first-sam
 -- the test holds at every place: where no loop finds one at which it fails ..
 pub all-from : (p : ℕ → Bool) (n : ℕ) → ((i : ℕ) → i < n → p i ≡ true) → allTo p n ≡ true
 unfolding allTo
-all-from p n each = go (ltb (first q 0 n) n) refl
-  where
-    q : ℕ → Bool
-    q i = not (p i)
-
-    go : (b : Bool) → ltb (first q 0 n) n ≡ b → eqb (first q 0 n) n ≡ true
-    go true e =
-        let l = ltb-true (first q 0 n) n e in
-        let bad : not (p (first q 0 n)) ≡ true = first-holds q 0 n (omega arith) in
-        absurd (false≢true (sym (not-true (p (first q 0 n)) bad) ∙ each (first q 0 n) l))
-    go false e = eq-eqb (first q 0 n) n (omega (arith, ltb-false (first q 0 n) n e, first-high q 0 n))
+all-from p n each =
+    let none = first-none (λ i. not (p i)) 0 n (λ i low l. ap not (each i (omega arith))) in
+    eq-eqb (first (λ i. not (p i)) 0 n) n (omega arith)
 
 -- .. as it does not where it fails at one ..
 pub all-fails : (p : ℕ → Bool) (n i : ℕ) → i < n → p i ≡ false → allTo p n ≡ false

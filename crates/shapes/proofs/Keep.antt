@@ -14,8 +14,7 @@ use lib.ListN.{length, getD, length-append, List·getD-append}
 use lib.Seq.{getD-append-seam}
 use mir.Val.{boolByte}
 use borrow.Author.Tests.{eqb-true, eqb-false, eq-eqb, ne-eqb, lt-ltb, le-ltb, ltb-true, ltb-false}
-use Rattle.shapes.proofs.Tests.{and-true}
-use Rattle.shapes.specs.Keep.{keepIf, keepTo, has, bit, count, every, some, Rising}
+use Rattle.shapes.specs.Keep.{keepIf, keepTo, has, bit, count, every, Rising}
 
 -- one number more to test
 pub keep-more : (p : ℕ → Bool) (n : ℕ) → keepTo p (n + 1) ≡ keepTo p n ++ keepIf (p n) n
@@ -148,19 +147,3 @@ module _ {A : Type 0} (p : A → Bool) where
           → (b && every p l) ≡ eqb (bit (not b) + count (λ x. not (p x)) l) 0
       go true e = rw zero-add e
       go false e = sym (ne-eqb (1 + count (λ x. not (p x)) l) 0 (λ h. omega arith))
-
-  -- the test holds for some exactly if it does not fail for every one
-  pub some-every : (l : List A) → some p l ≡ not (every (λ x. not (p x)) l)
-  unfolding every some
-  some-every [] = refl
-  some-every (x ∷ l) = go (p x) (some-every l)
-    where
-      go : (b : Bool) → some p l ≡ not (every (λ x. not (p x)) l) → (b || some p l) ≡ not (not b && every (λ x. not (p x)) l)
-      go true e = refl
-      go false e = e
-
-  -- what holds for every one holds for one among them
-  pub every-among : (l : List A) (x : A) (r : List A) → every p (l ++ (x ∷ r)) ≡ true → p x ≡ true
-  unfolding every
-  every-among [] x r e = and-true (p x) (every p r) e .0
-  every-among (y ∷ l) x r e = every-among l x r (and-true (p y) (every p (l ++ (x ∷ r))) e .1)

@@ -8,6 +8,10 @@ use mathlib.Core.List.{List, [], _∷_, _++_}
 use native.Mathlib.Omega.{arith}
 use Rattle.shapes.specs.Refusals.{Rule, when, fine, refused, ruling, AllFalse, RefusedBy}
 
+-- one statement after the other
+pub through : {A B C : Type 0} → A ↔ B → B ↔ C → A ↔ C
+through f g = (λ a. g .0 (f .0 a), λ c. f .1 (g .1 c))
+
 module _ {R : Type 0} where
   -- a true test refuses, whatever comes after
   pub ruling-here : {t : Bool} (r : R) (l : List (Rule R)) → t ≡ true → ruling (when t r ∷ l) ≡ refused r

@@ -12,9 +12,9 @@ OneAnswer {n} ps r Post =
     (κs : Lfts n) (a : Dens κs ps) (z z′ : resT r κs .Denot) (ws ws′ : Lasts (endedOf n ps r) κs a)
     → Post κs a z (atExit (endedOf n ps r) κs a ws) → Post κs a z′ (atExit (endedOf n ps r) κs a ws′) → (z ≡ z′) × (ws ≡ ws′)
 
--- the same of a call that hands back a part of what was lent to it: what is read through the part is one, as is what is left in the
--- lent buffers. The part's own pointer is left open by any contract, so `read` says what is read
-abbrev pub OneReading : {n : ℕ} (ps : List (PK n)) (r : RK n) → ((κs : Lfts n) → resT r κs .Denot → List ℕ) → Out n ps r → Type 0
+-- the same of a call that hands back a part of what was lent to it: what `read` says of the part is one, as is what is left in the lent
+-- buffers. A reference also has a name in the proofs, which no program sees and any contract leaves open: so not of the whole reference
+abbrev pub OneReading : {n : ℕ} {A : Type 0} (ps : List (PK n)) (r : RK n) → ((κs : Lfts n) → resT r κs .Denot → A) → Out n ps r → Type 0
 OneReading {n} ps r read Post =
     (κs : Lfts n) (a : Dens κs ps) (z z′ : resT r κs .Denot) (ws ws′ : Lasts (endedOf n ps r) κs a)
     → Post κs a z (atExit (endedOf n ps r) κs a ws) → Post κs a z′ (atExit (endedOf n ps r) κs a ws′)

@@ -1,24 +1,35 @@
-// Answer buffers, filled anew before each operation that lends one, and sums.
+// The memory and the answer buffers, which are as large, and sums.
 use shapes::byte;
+ghost use mathlib.Core.Path.{_≡_};
 ghost use Prim.Native.Nat.{_<_};
 ghost use lib.ListN.{length};
 
-// Fills an answer buffer of bytes.
-pub fn fill_bytes(bytes: &mut [u8]) {
-    let mut i = 0;
-    while i < bytes.len() {
-        bytes[i] = 165;
-        i += 1;
-    }
+// How many bytes and how many numbers there are, and what each is at the beginning.
+pub const BYTES: usize = 9000;
+
+pub const NUMBERS: usize = 8400;
+
+const BYTE: u8 = 165;
+
+const NUMBER: u16 = 42405;
+
+// A sum is taken times FACTOR for each entry, and is the rest by MODULUS.
+const FACTOR: usize = 31;
+
+const MODULUS: usize = 65521;
+
+// The session's bytes, or an answer buffer of bytes.
+pub fn bytes_room() -> [u8; BYTES]
+    ensures { λ r. do ⌜ (← ⟦BYTES⟧ .entry) ≡ length r ⌝ }
+{
+    [BYTE; BYTES]
 }
 
-// Fills an answer buffer of numbers.
-pub fn fill_numbers(numbers: &mut [u16]) {
-    let mut i = 0;
-    while i < numbers.len() {
-        numbers[i] = 42405;
-        i += 1;
-    }
+// The tallies, or an answer buffer of numbers.
+pub fn numbers_room() -> [u16; NUMBERS]
+    ensures { λ r. do ⌜ (← ⟦NUMBERS⟧ .entry) ≡ length r ⌝ }
+{
+    [NUMBER; NUMBERS]
 }
 
 // The number at a place.
@@ -35,7 +46,7 @@ fn summed(sum: usize, next: usize) -> usize
     requires { ⌜ next < 65536 ⌝ }
     ensures { λ r. ⌜ r < 65536 ⌝ }
 {
-    (31 * sum + next) % 65521
+    (FACTOR * sum + next) % MODULUS
 }
 
 // The sum of bytes.

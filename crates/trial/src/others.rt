@@ -1,94 +1,70 @@
-// The operations on the memory itself, 0 LEND, 12 POKE, 13 TALLY and 14 SUM; and those on files, 15 TABLE, 16 RETEST and 17 JUDGE. Each takes
-// the place after its code, and answers the place after its operands, or CUT.
-use crate::buffers::fill_bytes;
+// The operations on the memory itself, LEND, POKE, TALLY and SUM; and those on files, TABLE, RETEST and JUDGE. Each puts what follows its name in a
+// line, and answers the place after that.
+use crate::buffers::BYTES;
+use crate::buffers::NUMBERS;
+use crate::buffers::bytes_room;
 use crate::buffers::sum_bytes;
 use crate::buffers::sum_numbers;
-use crate::operands::CUT;
-use crate::operands::LEND;
-use crate::operands::four_bytes;
+use crate::codes::LEND;
+use crate::codes::POKE;
+use crate::codes::RETEST;
+use crate::codes::TABLE;
+use crate::codes::TALLY;
 use crate::operands::least;
-use crate::operands::lent_bytes;
-use crate::operands::lent_tallies;
-use crate::operands::parts_at;
-use crate::operands::two_bytes;
-use crate::print::end_line;
-use crate::print::print_answer;
-use crate::print::print_two;
-use crate::print::print_written;
 use crate::print::put_both;
+use crate::print::put_no;
 use crate::print::put_number;
-use crate::print::put_text;
+use crate::print::put_two;
 use crate::print::put_word;
+use crate::print::put_written;
+use house::file::HIGHER;
 use house::refusal::Answer;
-use house::retest::pick;
-use house::retest::pick_refusal;
 use judge::judge;
 use product::eight_litre;
 use product::five_litre;
+use retest::pick;
+use retest::pick_refusal;
 use shapes::byte;
-ghost use Prim.Native.Nat.{_≤_};
-ghost use lib.ListN.{length};
-
-fn run_lend(script: &[u8], at: usize, out: &mut [u8]) -> usize
-    requires { ⌜ at ≤ length (now script) ⌝ }
-{
-    if script.len() - at < 4 {
-        return CUT;
-    }
-    print_two(
-        out,
-        b"LEND",
-        lent_bytes(script, at),
-        lent_tallies(script, at),
-    );
-    at + 4
-}
+ghost use Prim.Native.Nat.{_<_};
 
 // Stores a byte in the session, if it has the place.
-fn poke(session: &mut [u8], place: usize, value: u8) {
+fn poke(session: &mut [u8], place: usize, value: usize) {
     if session.len() <= place {
         return;
     }
-    session[place] = value;
-}
-
-fn run_poke(script: &[u8], at: usize, session: &mut [u8], out: &mut [u8]) -> usize
-    requires { ⌜ at ≤ length (now script) ⌝ }
-{
-    if script.len() - at < 3 {
-        return CUT;
-    }
-    let place = two_bytes(script, at);
-    let value = byte(script, at + 2);
-    poke(session, place, value as u8);
-    print_two(out, b"POKE", place, value);
-    at + 3
+    session[place] = (value % HIGHER) as u8;
 }
 
 // Stores a number in the tallies, if they have the place.
-fn store_tally(tallies: &mut [u16], place: usize, value: u16) {
+fn store_tally(tallies: &mut [u16], place: usize, value: usize) {
     if tallies.len() <= place {
         return;
     }
-    tallies[place] = value;
+    tallies[place] = (value % (HIGHER * HIGHER)) as u16;
 }
 
-fn run_tally(script: &[u8], at: usize, tallies: &mut [u16], out: &mut [u8]) -> usize
-    requires { ⌜ at ≤ length (now script) ⌝ }
-{
-    if script.len() - at < 4 {
-        return CUT;
+// Carries out the operation of a code on the memory with two numbers.
+pub fn act(
+    out: &mut [u8],
+    at: usize,
+    code: usize,
+    session: &mut [u8],
+    tallies: &mut [u16],
+    first: usize,
+    second: usize,
+) -> usize {
+    if code == LEND {
+        return put_two(out, at, least(first, BYTES), least(second, NUMBERS));
     }
-    let place = two_bytes(script, at);
-    let value = two_bytes(script, at + 2);
-    store_tally(tallies, place, value as u16);
-    print_two(out, b"TALLY", place, value);
-    at + 4
-}
-
-fn run_sum(at: usize, session: &[u8], tallies: &[u16], out: &mut [u8]) -> usize {
-    print_two(out, b"SUM", sum_bytes(session), sum_numbers(tallies));
-    at
+    if code == POKE {
+        poke(session, first, second);
+        return put_two(out, at, first, second);
+    }
+    if code == TALLY {
+        store_tally(tallies, first, second);
+        return put_two(out, at, first, second);
+    }
+    put_two(out, at, sum_bytes(session), sum_numbers(tallies))
 }
 
 // Writes the built-in table that a number names.
@@ -99,17 +75,16 @@ fn product(which: usize, out: &mut [u8]) -> Answer {
     eight_litre(out)
 }
 
-fn run_table(script: &[u8], at: usize, bytes: &mut [u8], out: &mut [u8]) -> usize
-    requires { ⌜ at ≤ length (now script) ⌝ }
-{
-    if script.len() - at < 3 {
-        return CUT;
-    }
-    fill_bytes(bytes);
-    let room = least(two_bytes(script, at + 1), bytes.len());
-    let answer = product(byte(script, at), &mut bytes[0..room]);
-    print_written(out, b"TABLE", answer, bytes);
-    at + 3
+// Writes it by way of a whole answer buffer, of which so much is lent.
+fn product_in(out: &mut [u8], at: usize, which: usize, room: usize, bytes: &mut [u8]) -> usize {
+    let most = least(room, bytes.len());
+    let answer = product(which, &mut bytes[0..most]);
+    put_written(out, at, answer, bytes)
+}
+
+fn run_table(out: &mut [u8], at: usize, which: usize, room: usize) -> usize {
+    let mut bytes = bytes_room();
+    product_in(out, at, which, room, &mut bytes)
 }
 
 // Puts each byte as a number.
@@ -123,6 +98,12 @@ fn put_bytes(out: &mut [u8], at: usize, bytes: &[u8]) -> usize {
     end
 }
 
+// Puts the bytes of a case.
+fn put_case(out: &mut [u8], at: usize, bytes: &[u8]) -> usize {
+    let end = put_word(out, at, b"OK");
+    put_bytes(out, end, bytes)
+}
+
 // Puts the case picked, or why there is none.
 fn put_pick<'a>(
     out: &mut [u8],
@@ -133,98 +114,37 @@ fn put_pick<'a>(
 ) -> usize {
     let part = pick(first, retest, position);
     if part.len() == 0 {
-        let end = put_both(out, at, b"NO", pick_refusal(first, retest, position));
-        return put_number(out, end, 0);
+        return put_no(out, at, pick_refusal(first, retest, position), 0);
     }
-    let end = put_word(out, at, b"OK");
-    put_bytes(out, end, part)
+    put_case(out, at, part)
 }
 
-// Prints the case picked, or why there is none.
-fn print_pick<'a>(out: &mut [u8], first: &'a [u8], retest: &'a [u8], position: usize) {
-    let at = put_text(out, 0, b"RETEST");
-    let end = put_pick(out, at, first, retest, position);
-    end_line(out, end);
-}
-
-fn run_retest(script: &[u8], at: usize, out: &mut [u8]) -> usize {
-    let files = parts_at(script, at);
-    let from = files.start;
-    let to = files.end;
-    let from2 = files.start2;
-    let to2 = files.end2;
-    if to2 == CUT {
-        return CUT;
-    }
-    if script.len() - to2 < 4 {
-        return CUT;
-    }
-    print_pick(
-        out,
-        &script[from..to],
-        &script[from2..to2],
-        four_bytes(script, to2),
-    );
-    to2 + 4
-}
-
-fn run_judge(script: &[u8], at: usize, out: &mut [u8]) -> usize {
-    let files = parts_at(script, at);
-    let from = files.start;
-    let to = files.end;
-    let from2 = files.start2;
-    let to2 = files.end2;
-    if to2 == CUT {
-        return CUT;
-    }
-    if script.len() - to2 < 4 {
-        return CUT;
-    }
-    let number = four_bytes(script, to2) as u32;
-    let value = judge(&script[from..to], &script[from2..to2], number);
-    print_answer(out, b"JUDGE", Answer::Done(value as usize));
-    to2 + 4
-}
-
-// Carries out an operation on files, or answers CUT where the code has none.
-fn act_on_files(code: usize, script: &[u8], at: usize, bytes: &mut [u8], out: &mut [u8]) -> usize
-    requires { ⌜ at ≤ length (now script) ⌝ }
+// Puts what the judge answers.
+fn put_judged(out: &mut [u8], at: usize, table: &[u8], cases: &[u8], number: usize) -> usize
+    requires { ⌜ number < 4294967296 ⌝ }
 {
-    if code == 15 {
-        return run_table(script, at, bytes, out);
-    }
-    if code == 16 {
-        return run_retest(script, at, out);
-    }
-    if code == 17 {
-        return run_judge(script, at, out);
-    }
-    CUT
+    let value = judge(table, cases, number as u32);
+    put_both(out, at, b"OK", value as usize)
 }
 
-// Carries out an operation on the memory, or one on files.
-pub fn act(
-    code: usize,
-    script: &[u8],
-    at: usize,
-    session: &mut [u8],
-    tallies: &mut [u16],
-    bytes: &mut [u8],
+// Carries out the operation of a code on files: two numbers, two parts of the script, or those and a number.
+pub fn act_on_files<'a>(
     out: &mut [u8],
+    at: usize,
+    code: usize,
+    first: usize,
+    second: usize,
+    one: &'a [u8],
+    two: &'a [u8],
+    last: usize,
 ) -> usize
-    requires { ⌜ at ≤ length (now script) ⌝ }
+    requires { ⌜ last < 4294967296 ⌝ }
 {
-    if code == LEND {
-        return run_lend(script, at, out);
+    if code == TABLE {
+        return run_table(out, at, first, second);
     }
-    if code == 12 {
-        return run_poke(script, at, session, out);
+    if code == RETEST {
+        return put_pick(out, at, one, two, last);
     }
-    if code == 13 {
-        return run_tally(script, at, tallies, out);
-    }
-    if code == 14 {
-        return run_sum(at, session, tallies, out);
-    }
-    act_on_files(code, script, at, bytes, out)
+    put_judged(out, at, one, two, last)
 }

@@ -1,7 +1,6 @@
 // Lines of words and numbers, parted by one blank. A line is put together in a lent buffer, which is written out where it is full
 // and at the line's end; each function answers the place after what it put.
 use crate::buffers::sum_bytes;
-use crate::buffers::sum_numbers;
 use crate::operands::least;
 use house::refusal::Answer;
 use house::refusal::Refusal;
@@ -33,7 +32,7 @@ pub fn put_text(out: &mut [u8], at: usize, text: &[u8]) -> usize {
 
 // Puts a blank and a word.
 pub fn put_word(out: &mut [u8], at: usize, word: &[u8]) -> usize {
-    let end = put_byte(out, at, 32);
+    let end = put_byte(out, at, b' ');
     put_text(out, end, word)
 }
 
@@ -50,10 +49,21 @@ pub fn put_both(out: &mut [u8], at: usize, word: &[u8], number: usize) -> usize 
     put_number(out, end, number)
 }
 
+// Puts two numbers.
+pub fn put_two(out: &mut [u8], at: usize, a: usize, b: usize) -> usize {
+    let end = put_number(out, at, a);
+    put_number(out, end, b)
+}
+
+// Puts a refusal's number and what it carries.
+pub fn put_no(out: &mut [u8], at: usize, number: usize, carried: usize) -> usize {
+    let end = put_word(out, at, b"NO");
+    put_two(out, end, number, carried)
+}
+
 // Puts a refusal.
 pub fn put_refusal(out: &mut [u8], at: usize, refusal: Refusal) -> usize {
-    let end = put_both(out, at, b"NO", refusal.number());
-    put_number(out, end, refusal.carried())
+    put_no(out, at, refusal.number(), refusal.carried())
 }
 
 // Puts what a call answers.
@@ -64,45 +74,22 @@ pub fn put_answer(out: &mut [u8], at: usize, answer: Answer) -> usize {
     }
 }
 
+// Puts the sum of an answer buffer.
+pub fn put_sum(out: &mut [u8], at: usize, sum: usize) -> usize {
+    put_both(out, at, b"#", sum)
+}
+
+// Puts what a call answers and the sum of its answer buffer.
+pub fn put_written(out: &mut [u8], at: usize, answer: Answer, bytes: &[u8]) -> usize {
+    let end = put_answer(out, at, answer);
+    put_sum(out, end, sum_bytes(bytes))
+}
+
 // Ends a line and writes it out.
 pub fn end_line(out: &mut [u8], at: usize) {
-    let end = put_byte(out, at, 10);
+    let end = put_byte(out, at, b'\n');
     let end = least(end, out.len());
     io::write_all(1, &out[0..end]);
-}
-
-// Ends a line with the sum of an answer buffer of bytes.
-pub fn end_bytes(out: &mut [u8], at: usize, bytes: &[u8]) {
-    let end = put_both(out, at, b"#", sum_bytes(bytes));
-    end_line(out, end);
-}
-
-// Ends a line with the sum of an answer buffer of numbers.
-pub fn end_numbers(out: &mut [u8], at: usize, numbers: &[u16]) {
-    let end = put_both(out, at, b"#", sum_numbers(numbers));
-    end_line(out, end);
-}
-
-// Prints what a call answers.
-pub fn print_answer(out: &mut [u8], name: &[u8], answer: Answer) {
-    let at = put_text(out, 0, name);
-    let end = put_answer(out, at, answer);
-    end_line(out, end);
-}
-
-// Prints what a call answers and the sum of its answer buffer.
-pub fn print_written(out: &mut [u8], name: &[u8], answer: Answer, bytes: &[u8]) {
-    let at = put_text(out, 0, name);
-    let end = put_answer(out, at, answer);
-    end_bytes(out, end, bytes);
-}
-
-// Prints a name and two numbers.
-pub fn print_two(out: &mut [u8], name: &[u8], a: usize, b: usize) {
-    let at = put_text(out, 0, name);
-    let end = put_number(out, at, a);
-    let end = put_number(out, end, b);
-    end_line(out, end);
 }
 
 // Prints that the script ends at a place.

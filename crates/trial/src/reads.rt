@@ -1,56 +1,36 @@
-// The operations that read a session: 6 SAVE, 7 LIST, 8 AUDIT, 9 SYMPTOMS, 10 CONFLICT and 11 CANDIDATES. Each takes the place after its code,
-// and answers the place after its operands, or CUT.
+// The operations that read a session: SAVE, LIST, AUDIT, SYMPTOMS, CONFLICT and CANDIDATES. Each puts what follows its name in a line, and answers
+// the place after that.
+use crate::buffers::bytes_room;
 use crate::buffers::entry;
-use crate::buffers::fill_bytes;
-use crate::buffers::fill_numbers;
-use crate::operands::CUT;
-use crate::operands::four_bytes;
+use crate::buffers::numbers_room;
+use crate::buffers::sum_bytes;
+use crate::buffers::sum_numbers;
+use crate::codes::AUDIT;
+use crate::codes::CONFLICT;
+use crate::codes::LIST;
+use crate::codes::SAVE;
+use crate::codes::SYMPTOMS;
 use crate::operands::least;
-use crate::operands::two_bytes;
-use crate::print::end_bytes;
-use crate::print::end_line;
-use crate::print::end_numbers;
-use crate::print::print_written;
 use crate::print::put_both;
 use crate::print::put_number;
 use crate::print::put_refusal;
-use crate::print::put_text;
+use crate::print::put_sum;
+use crate::print::put_two;
 use crate::print::put_word;
+use crate::print::put_written;
 use diagnosis::Verdict;
 use house::refusal::Answer;
 use machine::head::Head;
-use session::read::Audited;
-use session::read::Listing;
-use session::read::Shown;
-use session::read::audit;
-use session::read::candidates;
-use session::read::conflict_set;
-use session::read::list;
-use session::read::save;
-use session::read::symptoms;
+use reading::audit::Audited;
+use reading::audit::audit;
+use reading::conflicts::Shown;
+use reading::conflicts::candidates;
+use reading::conflicts::conflict_set;
+use reading::conflicts::symptoms;
+use reading::list::Listing;
+use reading::list::list;
+use reading::save::save;
 use shapes::byte;
-ghost use Prim.Native.Nat.{_≤_};
-ghost use lib.ListN.{length};
-
-fn run_save(
-    script: &[u8],
-    at: usize,
-    session: &[u8],
-    tallies: &[u16],
-    bytes: &mut [u8],
-    out: &mut [u8],
-) -> usize
-    requires { ⌜ at ≤ length (now script) ⌝ }
-{
-    if script.len() - at < 2 {
-        return CUT;
-    }
-    fill_bytes(bytes);
-    let room = least(two_bytes(script, at), bytes.len());
-    let answer = save(session, tallies, &mut bytes[0..room]);
-    print_written(out, b"SAVE", answer, bytes);
-    at + 2
-}
 
 // Puts each number.
 fn put_each(out: &mut [u8], at: usize, numbers: &[u16]) -> usize {
@@ -66,9 +46,9 @@ fn put_each(out: &mut [u8], at: usize, numbers: &[u16]) -> usize {
 // Puts a verdict.
 fn put_verdict(out: &mut [u8], at: usize, verdict: Verdict) -> usize {
     match verdict {
-        Verdict::Clear => put_word(out, at, b"CLEAR"),
-        Verdict::Found => put_word(out, at, b"FOUND"),
-        Verdict::None => put_word(out, at, b"NONE"),
+        Verdict::Clear => put_word(out, at, b"OK CLEAR"),
+        Verdict::Found => put_word(out, at, b"OK FOUND"),
+        Verdict::None => put_word(out, at, b"OK NONE"),
     }
 }
 
@@ -84,38 +64,28 @@ fn put_list(out: &mut [u8], at: usize, verdict: Verdict, count: usize, numbers: 
 fn put_listing(out: &mut [u8], at: usize, listing: Listing, numbers: &[u16]) -> usize {
     match listing {
         Listing::Refused(refusal) => put_refusal(out, at, refusal),
-        Listing::Faults(verdict, count) => {
-            let end = put_word(out, at, b"OK");
-            put_list(out, end, verdict, count, numbers)
-        }
+        Listing::Faults(verdict, count) => put_list(out, at, verdict, count, numbers),
     }
 }
 
-// Prints what a list answers and the sum of its answer buffer.
-fn print_listing(out: &mut [u8], listing: Listing, numbers: &[u16]) {
-    let at = put_text(out, 0, b"LIST");
-    let end = put_listing(out, at, listing, numbers);
-    end_numbers(out, end, numbers);
-}
-
-fn run_list(
-    script: &[u8],
+// Lists by way of a whole answer buffer, of which so much is lent.
+fn list_in(
+    out: &mut [u8],
     at: usize,
     session: &[u8],
     tallies: &[u16],
+    room: usize,
     numbers: &mut [u16],
-    out: &mut [u8],
-) -> usize
-    requires { ⌜ at ≤ length (now script) ⌝ }
-{
-    if script.len() - at < 2 {
-        return CUT;
-    }
-    fill_numbers(numbers);
-    let room = least(two_bytes(script, at), numbers.len());
-    let listing = list(session, tallies, &mut numbers[0..room]);
-    print_listing(out, listing, numbers);
-    at + 2
+) -> usize {
+    let most = least(room, numbers.len());
+    let listing = list(session, tallies, &mut numbers[0..most]);
+    let end = put_listing(out, at, listing, numbers);
+    put_sum(out, end, sum_numbers(numbers))
+}
+
+fn run_list(out: &mut [u8], at: usize, session: &[u8], tallies: &[u16], room: usize) -> usize {
+    let mut numbers = numbers_room();
+    list_in(out, at, session, tallies, room, &mut numbers)
 }
 
 // Puts what an audit answers.
@@ -127,41 +97,18 @@ fn put_audited(out: &mut [u8], at: usize, audited: Audited) -> usize {
     }
 }
 
-fn run_audit(at: usize, session: &[u8], tallies: &[u16], out: &mut [u8]) -> usize {
-    let audited = audit(session, tallies);
-    let end = put_text(out, 0, b"AUDIT");
-    let end = put_audited(out, end, audited);
-    end_line(out, end);
-    at
+// Puts a count of symptoms and the first.
+fn put_found(out: &mut [u8], at: usize, count: usize, first: usize) -> usize {
+    let end = put_word(out, at, b"OK");
+    put_two(out, end, count, first)
 }
 
 // Puts what the symptoms of a place are.
 fn put_shown(out: &mut [u8], at: usize, shown: Shown) -> usize {
     match shown {
         Shown::Refused(refusal) => put_refusal(out, at, refusal),
-        Shown::Symptoms(found) => {
-            let end = put_both(out, at, b"OK", found.count);
-            put_number(out, end, found.first)
-        }
+        Shown::Symptoms(found) => put_found(out, at, found.count, found.first),
     }
-}
-
-// Prints what the symptoms of a place are.
-fn print_shown(out: &mut [u8], shown: Shown) {
-    let at = put_text(out, 0, b"SYMPTOMS");
-    let end = put_shown(out, at, shown);
-    end_line(out, end);
-}
-
-fn run_symptoms(script: &[u8], at: usize, session: &[u8], tallies: &[u16], out: &mut [u8]) -> usize
-    requires { ⌜ at ≤ length (now script) ⌝ }
-{
-    if script.len() - at < 4 {
-        return CUT;
-    }
-    let shown = symptoms(session, tallies, four_bytes(script, at));
-    print_shown(out, shown);
-    at + 4
 }
 
 // Puts a cell, if it has a 1.
@@ -183,93 +130,92 @@ fn put_ones(out: &mut [u8], at: usize, cells: &[u8]) -> usize {
     end
 }
 
+// Puts a set of cells.
+fn put_cells(out: &mut [u8], at: usize, bytes: &[u8]) -> usize {
+    let end = put_word(out, at, b"OK");
+    let most = least(Head::CELLS, bytes.len());
+    put_ones(out, end, &bytes[0..most])
+}
+
 // Puts what a call that writes a set of cells answers.
 fn put_set(out: &mut [u8], at: usize, answer: Answer, bytes: &[u8]) -> usize {
     match answer {
         Answer::Refused(refusal) => put_refusal(out, at, refusal),
-        Answer::Done(_) => {
-            let end = put_word(out, at, b"OK");
-            let most = least(Head::CELLS, bytes.len());
-            put_ones(out, end, &bytes[0..most])
-        }
+        Answer::Done(_) => put_cells(out, at, bytes),
     }
 }
 
-// Prints what a call that writes a set of cells answers.
-fn print_set(out: &mut [u8], name: &[u8], answer: Answer, bytes: &[u8]) {
-    let at = put_text(out, 0, name);
+// Puts that and the sum of its answer buffer.
+fn put_whole_set(out: &mut [u8], at: usize, answer: Answer, bytes: &[u8]) -> usize {
     let end = put_set(out, at, answer, bytes);
-    end_bytes(out, end, bytes);
+    put_sum(out, end, sum_bytes(bytes))
 }
 
-fn run_conflict(
-    script: &[u8],
-    at: usize,
-    session: &[u8],
-    tallies: &[u16],
-    bytes: &mut [u8],
-    out: &mut [u8],
-) -> usize
-    requires { ⌜ at ≤ length (now script) ⌝ }
-{
-    if script.len() - at < 6 {
-        return CUT;
+// Saves, or writes the conflict set of a place, or the candidates.
+fn write(code: usize, session: &[u8], tallies: &[u16], place: usize, out: &mut [u8]) -> Answer {
+    if code == SAVE {
+        return save(session, tallies, out);
     }
-    fill_bytes(bytes);
-    let place = four_bytes(script, at);
-    let room = least(two_bytes(script, at + 4), bytes.len());
-    let answer = conflict_set(session, tallies, place, &mut bytes[0..room]);
-    print_set(out, b"CONFLICT", answer, bytes);
-    at + 6
-}
-
-fn run_candidates(
-    script: &[u8],
-    at: usize,
-    session: &[u8],
-    tallies: &[u16],
-    bytes: &mut [u8],
-    out: &mut [u8],
-) -> usize
-    requires { ⌜ at ≤ length (now script) ⌝ }
-{
-    if script.len() - at < 2 {
-        return CUT;
+    if code == CONFLICT {
+        return conflict_set(session, tallies, place, out);
     }
-    fill_bytes(bytes);
-    let room = least(two_bytes(script, at), bytes.len());
-    let answer = candidates(session, tallies, &mut bytes[0..room]);
-    print_set(out, b"CANDIDATES", answer, bytes);
-    at + 2
+    candidates(session, tallies, out)
 }
 
-// Carries out the operation of a code.
-pub fn read(
+// Writes by way of a whole answer buffer, of which so much is lent.
+fn write_in(
+    out: &mut [u8],
+    at: usize,
     code: usize,
-    script: &[u8],
-    at: usize,
     session: &[u8],
     tallies: &[u16],
+    place: usize,
+    room: usize,
     bytes: &mut [u8],
-    numbers: &mut [u16],
+) -> usize {
+    let most = least(room, bytes.len());
+    let answer = write(code, session, tallies, place, &mut bytes[0..most]);
+    if code == SAVE {
+        return put_written(out, at, answer, bytes);
+    }
+    put_whole_set(out, at, answer, bytes)
+}
+
+fn run_write(
     out: &mut [u8],
-) -> usize
-    requires { ⌜ at ≤ length (now script) ⌝ }
-{
-    if code == 6 {
-        return run_save(script, at, session, tallies, bytes, out);
+    at: usize,
+    code: usize,
+    session: &[u8],
+    tallies: &[u16],
+    place: usize,
+    room: usize,
+) -> usize {
+    let mut bytes = bytes_room();
+    write_in(out, at, code, session, tallies, place, room, &mut bytes)
+}
+
+// Carries out the operation of a code with its first two numbers.
+pub fn read(
+    out: &mut [u8],
+    at: usize,
+    code: usize,
+    session: &[u8],
+    tallies: &[u16],
+    first: usize,
+    second: usize,
+) -> usize {
+    if code == LIST {
+        return run_list(out, at, session, tallies, first);
     }
-    if code == 7 {
-        return run_list(script, at, session, tallies, numbers, out);
+    if code == AUDIT {
+        return put_audited(out, at, audit(session, tallies));
     }
-    if code == 8 {
-        return run_audit(at, session, tallies, out);
+    if code == SYMPTOMS {
+        return put_shown(out, at, symptoms(session, tallies, first));
     }
-    if code == 9 {
-        return run_symptoms(script, at, session, tallies, out);
+    if code == CONFLICT {
+        return run_write(out, at, code, session, tallies, first, second);
     }
-    if code == 10 {
-        return run_conflict(script, at, session, tallies, bytes, out);
-    }
-    run_candidates(script, at, session, tallies, bytes, out)
+    let no_place = 0;
+    run_write(out, at, code, session, tallies, no_place, first)
 }

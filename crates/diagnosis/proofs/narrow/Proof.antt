@@ -3,9 +3,10 @@
 use borrow.Author.Needs.{needs}
 use mathlib.Core.Path.{sym}
 use native.Mathlib.Omega.{arith}
-use native.Mathlib.Nat.{mul-le-mul, sub-zero}
+use native.Mathlib.Nat.{sub-zero}
 use lib.ListN.{length-take}
 use denote.Ref.{now}
+use Rattle.machine.proofs.Sound.{cells-few}
 use Rattle.diagnosis.proofs.Conflicts.{no-symptom, a-symptom, input-in, narrows-out, narrows-none}
 use Rattle.diagnosis.proofs.narrow.Statement.{statement}
 use Rattle.diagnosis.proofs.narrow.Tie as tie
@@ -29,7 +30,7 @@ part-mark-executed-end : tie.Need-part-mark-executed-end
 part-mark-executed-end c = let f = a-symptom _ (record { inputs = now (c .before .before .before .before .before .before .before .before .args .inputs); outputs = now (c .before .before .before .before .before .before .before .before .args .outputs) }) _ (c .before .before .before .symptoms-of .ensures) (c .before .if1 .left) in omega (arith, f .1)
 
 mark-executed-requires : tie.Need-mark-executed-requires
-mark-executed-requires c κs = (c .before .before .before .before .before .before .before .before .before .before .pre .0, ((λ t below. input-in _ _ _ (c .before .before .before .before .before .before .before .before .before .before .pre .1 .0) _ t (simp length-take at below)), omega (arith, mul-le-mul (c .before .before .before .before .before .before .before .before .before .before .pre .0 .head .few-states) (c .before .before .before .before .before .before .before .before .before .before .pre .0 .head .few-inputs), c .before .before .before .before .before .before .before .before .before .before .pre .1 .1 .room)))
+mark-executed-requires c κs = (c .before .before .before .before .before .before .before .before .before .before .pre .0, ((λ t below. input-in _ _ _ (c .before .before .before .before .before .before .before .before .before .before .pre .1 .0) _ t (simp length-take at below)), omega (arith, cells-few _ (c .before .before .before .before .before .before .before .before .before .before .pre .0 .head), c .before .before .before .before .before .before .before .before .before .before .pre .1 .1 .room)))
 
 sweep-requires : tie.Need-sweep-requires
 sweep-requires c κs = search needs

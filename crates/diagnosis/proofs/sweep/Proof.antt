@@ -9,7 +9,7 @@ use lib.ListN.{length}
 use Rattle.shapes.proofs.Edit.{edit-none, length-edit}
 use Rattle.shapes.proofs.Edit.{edit-turn}
 use Rattle.shapes.specs.Edit.{edit}
-use Rattle.diagnosis.specs.Diagnosis.{swept}
+use Rattle.diagnosis.specs.Loops.{swept}
 use Rattle.diagnosis.proofs.sweep.Statement.{statement}
 use Rattle.diagnosis.proofs.sweep.Tie as tie
 use Rattle.machine.specs.Limits.{cellsMost}

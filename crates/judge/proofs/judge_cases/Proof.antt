@@ -5,6 +5,7 @@ use mathlib.Core.Path.{sym, _∙_}
 use Rattle.house.proofs.Forms.{checked-fine, checked-refused}
 use Rattle.house.proofs.Tables.{table-known}
 use Rattle.house.proofs.Records.{rules-pass}
+use Rattle.house.proofs.Against.{cases-fine}
 use Rattle.judge.proofs.Judged.{table-lent, judged-step, judged-number, judged-done}
 use borrow.Author.Needs.{needs}
 use native.Mathlib.Omega.{arith}
@@ -12,7 +13,7 @@ use Rattle.judge.proofs.judge_cases.Statement.{statement}
 use Rattle.judge.proofs.judge_cases.Tie as tie
 
 check-cases-requires : tie.Need-check-cases-requires
-check-cases-requires c κs = rules-pass _ (c .before .before .pre .1)
+check-cases-requires c κs = (omega arith, rules-pass _ (c .before .before .pre .1))
 
 enum-known-fault : tie.Need-enum-known-fault
 enum-known-fault c = search needs
@@ -45,7 +46,7 @@ part-is-explained-end : tie.Need-part-is-explained-end
 part-is-explained-end c = search needs
 
 is-explained-requires : tie.Need-is-explained-requires
-is-explained-requires c κs = (table-lent _ _ (c .before .before .before .before .before .before .before .before .pre .0), (omega (arith, c .before .before .numbers .ensures, c .before .if1 .left), (rules-pass _ (c .before .before .before .before .before .before .before .before .pre .1), checked-fine _ (sym (c .before .before .before .before .before .check-cases .ensures) ∙ c .before .before .before .enum-told .given .1))))
+is-explained-requires c κs = (table-lent _ _ (c .before .before .before .before .before .before .before .before .pre .0), (omega (arith, c .before .before .numbers .ensures, c .before .if1 .left), (rules-pass _ (c .before .before .before .before .before .before .before .before .pre .1), cases-fine _ _ _ .0 (checked-fine _ (sym (c .before .before .before .before .before .check-cases .ensures) ∙ c .before .before .before .enum-told .given .1)))))
 
 cast-result : tie.Need-cast-result
 cast-result c = search needs

@@ -11,10 +11,10 @@ use Rattle.product.proofs.put_cells.Statement.{statement}
 use Rattle.product.proofs.put_cells.Tie as tie
 
 abbrev Inv-loop : tie.InvT-loop
-Inv-loop model out₀ count cell₀ out cell = (cell ≤ count) × (out ≡ putTo model (2 * cell) out₀)
+Inv-loop product out₀ count cell₀ out cell = (cell ≤ count) × (out ≡ putTo product (2 * cell) out₀)
 
 abbrev μ-loop : tie.MeasureT-loop
-μ-loop model out₀ count cell₀ out cell = count - cell
+μ-loop product out₀ count cell₀ out cell = count - cell
 
 head-requires : tie.Need-head-requires Inv-loop μ-loop
 head-requires c κs = search needs

@@ -1,19 +1,19 @@
--- `machine::case::is_bad_step` meets its contract: the two bytes are those of the step.
+-- `machine::case::is_bad_step` meets its contract: it is one of the two.
 -- Assumes nothing.
 use borrow.Author.Needs.{needs}
 use Rattle.machine.specs.Case.{badStep}
 use Rattle.machine.proofs.case.is_bad_step.Statement.{statement}
 use Rattle.machine.proofs.case.is_bad_step.Tie as tie
 
-byte-requires : tie.Need-byte-requires
-byte-requires c κs = search needs
+is-bad-input-requires : tie.Need-is-bad-input-requires
+is-bad-input-requires c κs = search needs
 
-byte-requires-2 : tie.Need-byte-requires-2
-byte-requires-2 c κs = search needs
+is-bad-output-requires : tie.Need-is-bad-output-requires
+is-bad-output-requires c κs = search needs
 
 returns : tie.Need-returns
 unfolding badStep
-returns c = rw (c .before .before .before .byte .ensures .0, c .before .before .byte2 .ensures .0)
+returns c = rw (c .before .is-bad-input .ensures, c .is-bad-output .ensures)
 
 pub is-bad-step-spec : {M : Type 1} → statement M
-is-bad-step-spec = tie.close (tie.spec byte-requires byte-requires-2 returns)
+is-bad-step-spec = tie.close (tie.spec is-bad-input-requires is-bad-output-requires returns)

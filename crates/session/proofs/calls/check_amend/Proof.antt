@@ -7,8 +7,8 @@ use Rattle.shapes.proofs.Refusals.{ruling-here, ruling-past, ruling-end}
 use Rattle.shapes.proofs.Tests.{fails, passes}
 use Rattle.house.specs.Refusal.{checked}
 use Rattle.session.specs.Calls.{amendRules}
-use Rattle.session.proofs.Known.{told-fine, rules-slot}
-use Rattle.session.proofs.Refused.{part-fine, part-refused, case-told}
+use Rattle.memory.proofs.Known.{told-fine, rules-slot, part-fine, part-refused}
+use Rattle.session.proofs.Refused.{case-told}
 use Rattle.session.proofs.calls.check_amend.Statement.{statement}
 use Rattle.session.proofs.calls.check_amend.Tie as tie
 
@@ -36,7 +36,7 @@ enum-known-fault c = search needs
 
 returns-2 : tie.Need-returns-2
 unfolding amendRules
-returns-2 c = sym (ap checked (part-fine _ _ (c .before .before .before .before .before .before .before .check-slot .ensures) (c .before .before .before .before .before .enum-told .given .1) ∙ part-refused _ _ (case-told (c .before .before .before .before .before .before .before .before .before .before .before .before .args .session .now) (c .before .before .before .before .head-of .ensures) _ (c .before .before .before .check-case .ensures)) (c .before .fault .given .1)))
+returns-2 c = sym (ap checked (part-fine _ _ (c .before .before .before .before .before .before .before .check-slot .ensures) (c .before .before .before .before .before .enum-told .given .1) ∙ part-refused _ _ (case-told (c .before .before .before .before .before .before .before .before .before .before .before .before .args .session .now) (c .before .before .before .before .head-of .ensures) _ _ (c .before .before .before .check-case .ensures)) (c .before .fault .given .1)))
 
 enum-told-2 : tie.Need-enum-told-2
 enum-told-2 c = search needs
@@ -46,11 +46,11 @@ can-take-requires c κs = rules-slot _ _ _ (told-fine _ (c .before .before .befo
 
 returns-3 : tie.Need-returns-3
 unfolding amendRules
-returns-3 c = sym (ap checked (part-fine _ _ (c .before .before .before .before .before .before .before .before .check-slot .ensures) (c .before .before .before .before .before .before .enum-told .given .1) ∙ part-fine _ _ (case-told (c .before .before .before .before .before .before .before .before .before .before .before .before .before .args .session .now) (c .before .before .before .before .before .head-of .ensures) _ (c .before .before .before .before .check-case .ensures)) (c .before .before .enum-told2 .given .1) ∙ ruling-here _ _ (ap not (fails (c .before .can-take .ensures) (c .if1 .taken)))))
+returns-3 c = sym (ap checked (part-fine _ _ (c .before .before .before .before .before .before .before .before .check-slot .ensures) (c .before .before .before .before .before .before .enum-told .given .1) ∙ part-fine _ _ (case-told (c .before .before .before .before .before .before .before .before .before .before .before .before .before .args .session .now) (c .before .before .before .before .before .head-of .ensures) _ _ (c .before .before .before .before .check-case .ensures)) (c .before .before .enum-told2 .given .1) ∙ ruling-here _ _ (ap not (fails (c .before .can-take .ensures) (c .if1 .taken)))))
 
 returns-4 : tie.Need-returns-4
 unfolding amendRules
-returns-4 c = sym (ap checked (part-fine _ _ (c .before .before .before .before .before .before .before .before .check-slot .ensures) (c .before .before .before .before .before .before .enum-told .given .1) ∙ part-fine _ _ (case-told (c .before .before .before .before .before .before .before .before .before .before .before .before .before .args .session .now) (c .before .before .before .before .before .head-of .ensures) _ (c .before .before .before .before .check-case .ensures)) (c .before .before .enum-told2 .given .1) ∙ ruling-past _ _ (ap not (passes (c .before .can-take .ensures) (c .if1 .left))) ∙ ruling-end))
+returns-4 c = sym (ap checked (part-fine _ _ (c .before .before .before .before .before .before .before .before .check-slot .ensures) (c .before .before .before .before .before .before .enum-told .given .1) ∙ part-fine _ _ (case-told (c .before .before .before .before .before .before .before .before .before .before .before .before .before .args .session .now) (c .before .before .before .before .before .head-of .ensures) _ _ (c .before .before .before .before .check-case .ensures)) (c .before .before .enum-told2 .given .1) ∙ ruling-past _ _ (ap not (passes (c .before .can-take .ensures) (c .if1 .left))) ∙ ruling-end))
 
 pub check-amend-spec : {M : Type 1} → statement M
 check-amend-spec =

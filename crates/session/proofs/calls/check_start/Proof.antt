@@ -4,7 +4,8 @@ use borrow.Author.Needs.{needs}
 use mathlib.Core.Path.{sym, ap, _∙_}
 use Rattle.house.specs.Refusal.{checked}
 use Rattle.session.specs.Calls.{startRules}
-use Rattle.session.proofs.Refused.{part-fine, part-refused, table-told-refused, table-told-fine}
+use Rattle.memory.proofs.Known.{part-fine, part-refused}
+use Rattle.session.proofs.Refused.{table-told-refused, table-told-fine}
 use Rattle.session.proofs.calls.check_start.Statement.{statement}
 use Rattle.session.proofs.calls.check_start.Tie as tie
 

@@ -7,8 +7,7 @@ use Rattle.shapes.proofs.Refusals.{ruling-here, ruling-past, ruling-end}
 use Rattle.shapes.proofs.Tests.{fails, passes}
 use Rattle.house.specs.Refusal.{checked}
 use Rattle.session.specs.Calls.{withdrawRules}
-use Rattle.session.proofs.Known.{told-fine, rules-slot}
-use Rattle.session.proofs.Refused.{part-fine, part-refused}
+use Rattle.memory.proofs.Known.{told-fine, rules-slot, part-fine, part-refused}
 use Rattle.session.proofs.calls.check_withdraw.Statement.{statement}
 use Rattle.session.proofs.calls.check_withdraw.Tie as tie
 

@@ -3,7 +3,7 @@
 use mathlib.Core.Path.{refl}
 use borrow.Author.Needs.{needs}
 use native.Mathlib.Omega.{arith}
-use Rattle.session.proofs.Known.{parts-case, slot-room, slot-ends, slot-runs}
+use Rattle.memory.proofs.Known.{parts-case, slot-room, slot-ends, slot-runs}
 use Rattle.session.proofs.Refused.{take-low, take-done}
 use Rattle.session.proofs.calls.take.Statement.{statement}
 use Rattle.session.proofs.calls.take.Tie as tie

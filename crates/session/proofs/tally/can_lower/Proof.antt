@@ -8,7 +8,8 @@ use borrow.Author.Count.{below-more}
 use native.Mathlib.Omega.{arith}
 use Rattle.shapes.proofs.First.{all-from, all-fails}
 use Rattle.shapes.proofs.Tests.{fails, passes}
-use Rattle.session.proofs.Stores.{count-told, miss-told, canLose, lose-told}
+use Rattle.session.specs.Tallies.{canLower}
+use Rattle.session.proofs.Tallying.{count-told, miss-told, canLose, lose-told}
 use Rattle.session.proofs.tally.can_lower.Statement.{statement}
 use Rattle.session.proofs.tally.can_lower.Tie as tie
 
@@ -65,6 +66,7 @@ is-fair-requires : tie.Need-is-fair-requires Inv-loop μ-loop
 is-fair-requires c κs = c .before .missed .ensures .1
 
 returns : tie.Need-returns Inv-loop μ-loop
+unfolding canLower
 returns c = sym
     (all-fails _ _ (c .before .before .before .before .before .before .loop .number)
     (omega (arith, count-told (c .before .before .before .before .before .before .before .before .before .before .before .before .before .before .before .before .before .args .session .now) _ (c .before .before .before .before .before .before .before .before .before .before .before .before .head-of .ensures) _ (c .before .before .before .before .before .before .before .before .before .before .before .numbers .ensures .0)))
@@ -80,6 +82,7 @@ loop-again : tie.Need-loop-again Inv-loop μ-loop
 loop-again c = (omega arith, below-more _ _ (c .before .before .before .before .before .before .loop .inv .1) (passes (lose-told _ _ (c .before .before .before .before .before .before .before .before .before .before .before .before .before .before .before .before .before .args .tallies .now) (c .before .before .before .before .before .before .before .before .before .before .before .before .before .before .before .before .before .args .left) _ _ (miss-told _ _ (c .before .before .before .before .before .before .before .before .before .before .before .before .head-of .ensures) _ _ _ (c .before .before .before .missed .ensures .0)) (c .before .is-fair .ensures)) (c .if1 .left)))
 
 returns-2 : tie.Need-returns-2 Inv-loop μ-loop
+unfolding canLower
 returns-2 c = sym (all-from _ _ λ f l. c .before .loop .inv .1 f (omega (arith, count-told (c .before .before .before .before .before .before .before .before .before .before .before .before .args .session .now) _ (c .before .before .before .before .before .before .before .head-of .ensures) _ (c .before .before .before .before .before .before .numbers .ensures .0))))
 
 pub can-lower-spec : {M : Type 1} → statement M

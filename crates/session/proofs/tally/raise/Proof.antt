@@ -8,8 +8,8 @@ use native.Mathlib.Omega.{arith}
 use lib.ListN.{length}
 use Rattle.shapes.specs.Edit.{edit}
 use Rattle.shapes.proofs.Edit.{edit-none, edit-turn, length-edit}
-use Rattle.session.specs.Calls.{miss, raised}
-use Rattle.session.proofs.Stores.{count-told, miss-told, all-told, tally-next}
+use Rattle.session.specs.Tallies.{miss, raised}
+use Rattle.session.proofs.Tallying.{count-told, miss-told, all-told, tally-next}
 use Rattle.session.proofs.tally.raise.Statement.{statement}
 use Rattle.session.proofs.tally.raise.Tie as tie
 

@@ -1,15 +1,15 @@
 -- `session::tally::walk` meets its contract: what was marked says which cells were not executed.
 -- Assumes nothing.
 use borrow.Author.Needs.{needs}
-use native.Mathlib.Nat.{mul-le-mul}
 use native.Mathlib.Omega.{arith}
+use Rattle.machine.proofs.Sound.{cells-few}
 use Rattle.machine.proofs.Cases.{case-step}
 use Rattle.diagnosis.proofs.Walks.{walked}
 use Rattle.session.proofs.tally.walk.Statement.{statement}
 use Rattle.session.proofs.tally.walk.Tie as tie
 
 mark-executed-requires : tie.Need-mark-executed-requires
-mark-executed-requires c κs = (c .before .before .before .before .before .pre .0, ((λ t l. case-step _ _ _ (c .before .before .before .before .before .pre .1 .0) t l .0), omega (arith, mul-le-mul (c .before .before .before .before .before .pre .0 .head .few-states) (c .before .before .before .before .before .pre .0 .head .few-inputs), c .before .before .before .before .before .pre .1 .1)))
+mark-executed-requires c κs = (c .before .before .before .before .before .pre .0, (case-step _ _ _ (c .before .before .before .before .before .pre .1 .0), omega (arith, cells-few _ (c .before .before .before .before .before .pre .0 .head), c .before .before .before .before .before .pre .1 .1)))
 
 is-failing-requires : tie.Need-is-failing-requires
 is-failing-requires c κs = search needs

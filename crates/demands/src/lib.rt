@@ -1,2 +1,1 @@
-// The page to point at (document 01): what is demanded, as statements about the calls' own definitions. It has no code. Here stands the table of
-// examples, P1 to P10.
+// The page to point at (document 01, "Product tables and numbers to check"): the table of examples, P1 to P10, under one claim. It has no code.

@@ -8,7 +8,7 @@ use lib.ListN.{length}
 use Rattle.shapes.specs.Keep.{keepTo}
 use Rattle.machine.specs.Head.{cellCount, numbers}
 use Rattle.machine.specs.Machine.{specified}
-use Rattle.machine.specs.Case.{Case}
+use Rattle.machine.specs.Case.{Case, asCase}
 use Rattle.machine.specs.Run.{expected}
 use Rattle.machine.specs.declared.head.Head.{Head}
 use Rattle.product.specs.Tables.{productHead, productCells}
@@ -32,10 +32,6 @@ eight = record { head = productHead EightLitre; cells = productCells EightLitre 
 -- the table with 1 state, 1 input, m outputs and the one cell 0/0
 abbrev pub single : ℕ → Table
 single m = record { head = record { states = 1; inputs = 1; outputs = m }; cells = 0 ∷ 0 ∷ [] }
-
--- the inputs of a case and what was seen
-abbrev pub case : List ℕ → List ℕ → Case
-case is ys = record { inputs = is; outputs = ys }
 
 -- the verdict on cases, and their list
 abbrev pub verdict : Table → List Case → Verdict
@@ -85,22 +81,22 @@ examples =
     ∷ gives five (1 ∷ 1 ∷ []) (3 ∷ 0 ∷ [])
     ∷ gives eight (1 ∷ 1 ∷ []) (3 ∷ 4 ∷ [])
     -- P3
-    ∷ diagnoses five (case (0 ∷ 0 ∷ []) (1 ∷ 3 ∷ []) ∷ []) verdicts.Found (27 ∷ [])
+    ∷ diagnoses five (asCase (0 ∷ 0 ∷ []) (1 ∷ 3 ∷ []) ∷ []) verdicts.Found (27 ∷ [])
     -- P4
-    ∷ diagnoses five (case (0 ∷ 0 ∷ []) (1 ∷ 1 ∷ []) ∷ []) verdicts.Found (4 ∷ 6 ∷ 25 ∷ [])
+    ∷ diagnoses five (asCase (0 ∷ 0 ∷ []) (1 ∷ 1 ∷ []) ∷ []) verdicts.Found (4 ∷ 6 ∷ 25 ∷ [])
     -- P5
-    ∷ hasConflict five (case (1 ∷ 2 ∷ 1 ∷ []) (3 ∷ 0 ∷ 0 ∷ [])) (1 ∷ 8 ∷ [])
-    ∷ diagnoses five (case (1 ∷ 2 ∷ 1 ∷ []) (3 ∷ 0 ∷ 0 ∷ []) ∷ []) verdicts.Found (70 ∷ 71 ∷ [])
+    ∷ hasConflict five (asCase (1 ∷ 2 ∷ 1 ∷ []) (3 ∷ 0 ∷ 0 ∷ [])) (1 ∷ 8 ∷ [])
+    ∷ diagnoses five (asCase (1 ∷ 2 ∷ 1 ∷ []) (3 ∷ 0 ∷ 0 ∷ []) ∷ []) verdicts.Found (70 ∷ 71 ∷ [])
     -- P6: P5 with a case added
-    ∷ diagnoses five (case (1 ∷ 2 ∷ 1 ∷ []) (3 ∷ 0 ∷ 0 ∷ []) ∷ case (1 ∷ 2 ∷ 0 ∷ []) (3 ∷ 0 ∷ 1 ∷ []) ∷ []) verdicts.Found (70 ∷ [])
-    ∷ hasTally five (case (1 ∷ 2 ∷ 1 ∷ []) (3 ∷ 0 ∷ 0 ∷ []) ∷ case (1 ∷ 2 ∷ 0 ∷ []) (3 ∷ 0 ∷ 1 ∷ []) ∷ []) 71 1
+    ∷ diagnoses five (asCase (1 ∷ 2 ∷ 1 ∷ []) (3 ∷ 0 ∷ 0 ∷ []) ∷ asCase (1 ∷ 2 ∷ 0 ∷ []) (3 ∷ 0 ∷ 1 ∷ []) ∷ []) verdicts.Found (70 ∷ [])
+    ∷ hasTally five (asCase (1 ∷ 2 ∷ 1 ∷ []) (3 ∷ 0 ∷ 0 ∷ []) ∷ asCase (1 ∷ 2 ∷ 0 ∷ []) (3 ∷ 0 ∷ 1 ∷ []) ∷ []) 71 1
     -- P7: P6 with the first case withdrawn
-    ∷ countsListed five (case (1 ∷ 2 ∷ 0 ∷ []) (3 ∷ 0 ∷ 1 ∷ []) ∷ []) verdicts.Clear 53
+    ∷ countsListed five (asCase (1 ∷ 2 ∷ 0 ∷ []) (3 ∷ 0 ∷ 1 ∷ []) ∷ []) verdicts.Clear 53
     -- P8
-    ∷ allTallies five (case (1 ∷ 2 ∷ 1 ∷ []) (3 ∷ 0 ∷ 2 ∷ []) ∷ []) verdicts.None 96 1
+    ∷ allTallies five (asCase (1 ∷ 2 ∷ 1 ∷ []) (3 ∷ 0 ∷ 2 ∷ []) ∷ []) verdicts.None 96 1
     -- P9
-    ∷ diagnoses (single 2) (case (0 ∷ []) (1 ∷ []) ∷ []) verdicts.Found (1 ∷ [])
-    ∷ diagnoses (single 2) (case (0 ∷ 0 ∷ []) (0 ∷ 1 ∷ []) ∷ []) verdicts.None []
+    ∷ diagnoses (single 2) (asCase (0 ∷ []) (1 ∷ []) ∷ []) verdicts.Found (1 ∷ [])
+    ∷ diagnoses (single 2) (asCase (0 ∷ 0 ∷ []) (0 ∷ 1 ∷ []) ∷ []) verdicts.None []
     -- P10
-    ∷ diagnoses (single 1) (case (0 ∷ 0 ∷ []) (0 ∷ 0 ∷ []) ∷ []) verdicts.Clear []
+    ∷ diagnoses (single 1) (asCase (0 ∷ 0 ∷ []) (0 ∷ 0 ∷ []) ∷ []) verdicts.Clear []
     ∷ []

@@ -12,7 +12,7 @@ use borrow.Author.Tests.{lt-ltb, le-ltb, le-leb, lt-leb, leb-true, leb-false}
 use lib.Dec.{ltb, leb}
 use lib.ListN.{length, take, drop, set, length-append, length-drop, take-append-drop, drop-of-length-le}
 use lib.Seq.{length-take-le, drop-cons, drop-drop, take-append-seam, drop-append-add, getD-append-seam, take-at, drop-at}
-use Rattle.shapes.specs.Edit.{filled}
+use Rattle.shapes.specs.Edit.{filled, placeAfter}
 use Rattle.shapes.proofs.Edit.{filled-one, filled-append}
 use Rattle.shapes.specs.Refusals.{Ruling, fine, refused, ruling, AllFalse, RefusedBy}
 use Rattle.shapes.proofs.Refusals.{ruling-join-refused, ruling-join-fine, ruling-joined, refused-when, fine-when}
@@ -70,15 +70,24 @@ count-broken file zero at n h e = rw (lt-leb _ _ h)
 count-broken file (suc left) at n h e = rw (lt-leb _ _ h, e)
 
 -- a case stands there, and the rest is counted from the place after it
-pub count-more : (file : List ℕ) (left at n : ℕ) → at < length file → caseFits file at ≡ true
+pub count-next : (file : List ℕ) (left at n : ℕ) → at < length file → caseFits file at ≡ true
     → countFrom file (suc left) at n ≡ countFrom file left (caseEnd file at) (suc n)
 unfolding countFrom
-count-more file left at n h e = rw (lt-leb _ _ h, e)
+count-next file left at n h e = rw (lt-leb _ _ h, e)
 
 -- a loop's turn
 pub count-turn : (file : List ℕ) (at n : ℕ) → n < casesMost → at < length file → caseFits file at ≡ true
     → countFrom file (casesMost - n) at n ≡ countFrom file (casesMost - (n + 1)) (caseEnd file at) (n + 1)
-count-turn file at n few h e = let d : 64 - n ≡ suc (64 - (n + 1)) = omega arith in rw (d, count-more, add-one n)
+count-turn file at n few h e = let d : 64 - n ≡ suc (64 - (n + 1)) = omega arith in rw (d, count-next, add-one n)
+
+-- a case has a length byte, and a byte for each input and output,
+length-bytes : (c : Case) → length (caseBytes c) ≡ 1 + (length (c .inputs) + length (c .outputs))
+unfolding caseBytes
+length-bytes c = let e = length-append (c .inputs) (c .outputs) in omega arith
+
+-- so the place after one with as many outputs as inputs is a byte and two for each step on
+pub case-after : (at : ℕ) (c : Case) → length (c .outputs) ≡ length (c .inputs) → at + 1 + 2 * length (c .inputs) ≡ placeAfter at (caseBytes c)
+case-after at c e = omega (arith, length-bytes c)
 
 -- the length byte stored, then the inputs written and the outputs after them: the case is written
 pub case-written : (out one two : List ℕ) (at : ℕ) (c : Case) → one ≡ filled (set out at (length (c .inputs))) (at + 1) (c .inputs)
@@ -91,9 +100,9 @@ case-written out one two at c d e =
 
 module _ (file : List ℕ) where
   -- a file that the rules for every file refuse is refused so
-  pub read-refused : {r : Refusal} → ruling (fileRules version file) ≡ refused r → recordRead file ≡ Refused r
+  pub record-file-refused : {r : Refusal} → ruling (fileRules version file) ≡ refused r → recordRead file ≡ Refused r
   unfolding recordRead recordRules
-  read-refused e = rw (ruling-join-refused (fileRules version file) _ _ e)
+  record-file-refused e = rw (ruling-join-refused (fileRules version file) _ _ e)
 
   -- a file that those let pass is refused where its cases are broken,
   pub read-broken : ruling (fileRules version file) ≡ fine → countIn file ≡ Broken → recordRead file ≡ Refused Refusal-type.the-variants.Record
@@ -204,11 +213,6 @@ pub cases-counted : (file : List ℕ) → length (casesIn file) ≡ countOf (cou
 unfolding casesIn
 cases-counted file = cases-length file (countOf (countIn file)) _
 
--- a case has a length byte, and a byte for each input and output
-length-bytes : (c : Case) → length (caseBytes c) ≡ 1 + (length (c .inputs) + length (c .outputs))
-unfolding caseBytes
-length-bytes c = let e = length-append (c .inputs) (c .outputs) in omega arith
-
 -- a case written after a list, with another list after it: it stands at the place after the first list
 module _ (pre : List ℕ) (c : Case) (rest : List ℕ) where
   -- its length byte stands there
@@ -262,7 +266,7 @@ unfolding restOf
 count-written [] pre left n ok few = rw (append-nil, add-zero) (count-ended pre left (length pre) n (omega arith))
 count-written (c ∷ cs) pre zero n ok few = absurd (omega arith)
 count-written (c ∷ cs) pre (suc left) n ok few =
-    let w = count-more _ left _ n (written-inside pre c (restOf cs)) (written-fits pre c (restOf cs) (ok .0)) in
+    let w = count-next _ left _ n (written-inside pre c (restOf cs)) (written-fits pre c (restOf cs) (ok .0)) in
     let e = count-written cs (pre ++ caseBytes c) left (suc n) (ok .1) (omega arith) in
     let d : n + suc (length cs) ≡ suc n + length cs = omega arith in
     rw (w, written-end pre c (restOf cs) (ok .0), d) (rw append-assoc at e)

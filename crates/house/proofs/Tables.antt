@@ -91,9 +91,9 @@ module _ (file : List ℕ) where
   cells-bad n e = e ∙ rw (cells-part, n .same)
 
   -- a file that the rules for every file refuse is refused so
-  pub read-refused : {r : Refusal} → ruling (fileRules version file) ≡ refused r → tableRead file ≡ Refused r
+  pub table-file-refused : {r : Refusal} → ruling (fileRules version file) ≡ refused r → tableRead file ≡ Refused r
   unfolding tableRead tableRules
-  read-refused e = rw (ruling-join-refused (fileRules version file) _ _ e)
+  table-file-refused e = rw (ruling-join-refused (fileRules version file) _ _ e)
 
   module _ (e : ruling (fileRules version file) ≡ fine) where
     -- a file that those let pass is refused for its size,

@@ -13,7 +13,7 @@ use shapes::put;
 ghost use mathlib.Core.Path.{_≡_};
 ghost use Prim.Native.Nat.{_+_, _*_, _≤_, _<_};
 ghost use lib.ListN.{length};
-ghost use Rattle.shapes.specs.Edit.{filled};
+ghost use Rattle.shapes.specs.Edit.{filled, placeAfter};
 ghost use Rattle.shapes.specs.Refusals.{ruling, fine};
 ghost use Rattle.machine.specs.Limits.{stepsMost};
 ghost use Rattle.machine.specs.Case.{asCase};
@@ -89,7 +89,8 @@ pub fn read_record(file: &[u8]) -> RecordFile
 pub fn put_case(out: &mut [u8], at: usize, inputs: &[u8], outputs: &[u8]) -> usize
     requires { ⌜ (length (now inputs) ≤ stepsMost) × (length (now outputs) ≡ length (now inputs)) ⌝ }
     requires { ⌜ at + 1 + 2 * length (now inputs) ≤ length (now out) ⌝ }
-    ensures { λ r. ⌜ (r ≡ at + 1 + 2 * length (now (inputs .entry))) × (now (out .exit) ≡ filled (now (out .entry)) at (caseBytes (asCase (now (inputs .entry)) (now (outputs .entry))))) ⌝ }
+    ensures next { λ r. ⌜ r ≡ placeAfter at (caseBytes (asCase (now (inputs .entry)) (now (outputs .entry)))) ⌝ }
+    ensures written { λ r. ⌜ now (out .exit) ≡ filled (now (out .entry)) at (caseBytes (asCase (now (inputs .entry)) (now (outputs .entry)))) ⌝ }
 {
     let steps = inputs.len();
     out[at] = steps as u8;

@@ -22,7 +22,6 @@ use Rattle.machine.specs.Case.{Case, goodCase, allGood, CaseIn}
 use Rattle.machine.specs.declared.head.Head.{Head}
 use Rattle.machine.proofs.Cases.{case-in}
 use Rattle.house.specs.File.{restAt}
-use Rattle.house.specs.Refusal.{numberOf}
 use Rattle.house.specs.Table.{fileCellsAt, cellsIn, headIn, tableRules, tableRead}
 use Rattle.house.specs.Cases.{caseEnd, caseAt, countIn, countOf, recordRules, recordRead, casesFrom, casesIn, alone, casesRules}
 use Rattle.house.specs.Walk.{placeOf}
@@ -35,7 +34,7 @@ use Rattle.house.proofs.Records.{rules-refuse, rules-pass}
 use Rattle.house.proofs.Places.{place-next}
 use Rattle.house.proofs.Against.{next-case}
 use Rattle.diagnosis.specs.Diagnosis.{explains, misses, fails, explainsAll}
-use Rattle.judge.specs.Judge.{judgeRules, refusedFrom, judgement}
+use Rattle.judge.specs.Judge.{judgeRules, refusedAs, judgement}
 
 -- where trying stands: before case i, at its place, and no case was missed
 pub record Trying (h : Head) (cells : List ℕ) (number : ℕ) (file : List ℕ) (count i at : ℕ) : Type 0 where
@@ -96,7 +95,7 @@ table-lent table h e = rw (cells-part table) (table-known table h e .0)
 
 module _ (table file : List ℕ) (number : ℕ) where
   -- the table's refusal is the answer,
-  pub judged-table : (r : Refusal) → tableRead table ≡ TableFile-type.the-variants.Refused r → judgement table file number ≡ refusedFrom + numberOf r
+  pub judged-table : (r : Refusal) → tableRead table ≡ TableFile-type.the-variants.Refused r → judgement table file number ≡ refusedAs r
   unfolding judgement judgeRules
   judged-table r e = rw (ruling-join-refused (tableRules table) _ r (refused-when (tableRules table) r .1 (table-refused table r .0 e)))
 
@@ -106,29 +105,29 @@ module _ (table file : List ℕ) (number : ℕ) where
     table-fine = fine-when (tableRules table) .1 (table-taken table h e .0)
 
     -- and the record's is,
-    pub judged-record : (r : Refusal) → recordRead file ≡ RecordFile-type.the-variants.Refused r → judgement table file number ≡ refusedFrom + numberOf r
+    pub judged-record : (r : Refusal) → recordRead file ≡ RecordFile-type.the-variants.Refused r → judgement table file number ≡ refusedAs r
     unfolding judgement judgeRules
     judged-record r d =
         rw (ruling-join-fine (tableRules table) _ table-fine, ruling-join-refused (recordRules file) _ r (rules-refuse file d))
 
     module _ (n : ℕ) (d : recordRead file ≡ RecordFile-type.the-variants.Record n) where
       -- where the files have none, the cases decide and then the number
-      cases-decide : ruling (judgeRules table file number) ≡ ruling (casesRules h alone (casesIn file) ++ (when (leb (numbers h) number) Number ∷ []))
+      cases-next : ruling (judgeRules table file number) ≡ ruling (casesRules h alone (casesIn file) ++ (when (leb (numbers h) number) Number ∷ []))
       unfolding judgeRules
-      cases-decide =
+      cases-next =
           rw
           (ruling-join-fine (tableRules table) _ table-fine, ruling-join-fine (recordRules file) _ (rules-pass file d .0), table-taken table h e .1)
 
       -- STEP is,
-      pub judged-step : (r : Refusal) → ruling (casesRules h alone (casesIn file)) ≡ refused r → judgement table file number ≡ refusedFrom + numberOf r
+      pub judged-step : (r : Refusal) → ruling (casesRules h alone (casesIn file)) ≡ refused r → judgement table file number ≡ refusedAs r
       unfolding judgement
-      judged-step r s = rw (cases-decide, ruling-join-refused (casesRules h alone (casesIn file)) _ r s)
+      judged-step r s = rw (cases-next, ruling-join-refused (casesRules h alone (casesIn file)) _ r s)
 
       module _ (s : ruling (casesRules h alone (casesIn file)) ≡ fine) where
         -- then NUMBER,
-        pub judged-number : numbers h ≤ number → judgement table file number ≡ refusedFrom + numberOf Number
+        pub judged-number : numbers h ≤ number → judgement table file number ≡ refusedAs Number
         unfolding judgement
-        judged-number l = rw (cases-decide, ruling-join-fine (casesRules h alone (casesIn file)) _ s, ruling-here Number [] (le-leb _ _ l))
+        judged-number l = rw (cases-next, ruling-join-fine (casesRules h alone (casesIn file)) _ s, ruling-here Number [] (le-leb _ _ l))
 
         -- else whether every case is reproduced, cast to a number
         pub judged-done : number < numbers h → (b : Bool) → b ≡ explainsAll h (take (length table - fileCellsAt) (drop fileCellsAt table)) (casesIn file) number
@@ -136,4 +135,4 @@ module _ (table file : List ℕ) (number : ℕ) where
         unfolding judgement
         judged-done l b eb =
             let t : b ≡ explainsAll (headIn table) (cellsIn table) (casesIn file) number = eb ∙ rw (cells-part table, table-taken table h e .1) in
-            rw (cases-decide, ruling-join-fine (casesRules h alone (casesIn file)) _ s, ruling-past Number [] (lt-leb _ _ l), ruling-end {R = Refusal}) (bit-told t .0)
+            rw (cases-next, ruling-join-fine (casesRules h alone (casesIn file)) _ s, ruling-past Number [] (lt-leb _ _ l), ruling-end {R = Refusal}) (bit-told t .0)

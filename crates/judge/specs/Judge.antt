@@ -26,10 +26,14 @@ judgeRules table file number =
 abbrev pub refusedFrom : ℕ
 refusedFrom = 16
 
--- what is answered: 1 or 0, "else 16 plus the refusal"
+-- "16 plus the refusal"
+abbrev pub refusedAs : Refusal → ℕ
+refusedAs r = refusedFrom + numberOf r
+
+-- what is answered: 1 or 0, else the refusal
 abbrev pub judged : Ruling Refusal → Bool → ℕ
 judged fine b = bit b
-judged (refused r) b = refusedFrom + numberOf r
+judged (refused r) b = refusedAs r
 
 -- what the judge answers: whether the number's machine reproduces each case of the record, where no rule refuses
 unfoldable pub judgement : List ℕ → List ℕ → ℕ → ℕ

@@ -14,25 +14,24 @@ use machine::head::Head;
 use shapes::byte;
 ghost use mathlib.Core.Path.{_≡_};
 ghost use mathlib.Core.Bool.{true};
-ghost use Prim.Native.Nat.{_+_, _<_};
+ghost use Prim.Native.Nat.{_<_};
 ghost use Rattle.shapes.specs.Refusals.{ruling, fine};
 ghost use Rattle.machine.specs.Head.{numbers};
 ghost use Rattle.machine.specs.Cell.{TableIn};
 ghost use Rattle.machine.specs.Case.{allGood};
-ghost use Rattle.house.specs.Refusal.{numberOf};
 ghost use Rattle.house.specs.Table.{tableRead};
 ghost use Rattle.house.specs.Cases.{recordRead, recordRules, countIn, countOf, casesIn};
 ghost use Rattle.house.specs.declared.table.TableFile.the-variants.{Table};
 ghost use Rattle.house.specs.declared.cases.RecordFile.the-variants.{Record};
 ghost use Rattle.diagnosis.specs.Diagnosis.{explainsAll};
-ghost use Rattle.judge.specs.Judge.{refusedFrom, judgement};
+ghost use Rattle.judge.specs.Judge.{refusedAs, judgement};
 
 // What is added to the number of a refusal.
 const REFUSED: usize = 16;
 
 // The answer for a refusal.
 fn refused(refusal: Refusal) -> u32
-    ensures { λ r. ⌜ r ≡ refusedFrom + numberOf refusal ⌝ }
+    ensures { λ r. ⌜ r ≡ refusedAs refusal ⌝ }
 {
     (REFUSED + refusal.number()) as u32
 }

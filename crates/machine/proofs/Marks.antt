@@ -13,7 +13,7 @@ use borrow.Author.Tests.{eqb-true, eqb-false}
 use Rattle.shapes.specs.Keep.{has}
 use Rattle.machine.specs.Head.{HeadIn, cellCount}
 use Rattle.machine.specs.Cell.{TableIn}
-use Rattle.machine.specs.Machine.{Machine, initial, cellAt, specified}
+use Rattle.machine.specs.Machine.{Machine, initial, cellNumber, specified}
 use Rattle.machine.specs.Case.{InputsIn}
 use Rattle.machine.specs.Run.{path, executed}
 use Rattle.machine.specs.Marks.{marked}
@@ -35,7 +35,7 @@ marking-begins h M is out₀ head = record { inside = omega arith; state-in = om
 
 -- and goes on so
 pub marking-goes-on : (h : Head) (M : Machine) (is out₀ : List ℕ) (t s : ℕ) (out : List ℕ) (c x : ℕ) → Marking h M is out₀ t s out → t < length is
-    → c ≡ cellAt M s (getD is t 0) → x ≡ M .does (cellAt M s (getD is t 0)) .next → x < h .states
+    → c ≡ cellNumber (M .inputs) s (getD is t 0) → x ≡ M .does (cellNumber (M .inputs) s (getD is t 0)) .next → x < h .states
     → Marking h M is out₀ (t + 1) x (set out c (getD out c 0 % 2 + 2))
 unfolding path marked
 marking-goes-on h M is out₀ t s out c x m l ec ex lx =
@@ -89,17 +89,17 @@ unmarked cs out c l e = go (has c cs) (sym (marked-at cs out c l) ∙ e)
     go false e = refl
 
 -- every cell on the path of a machine that stays among n states is one of theirs
-path-in : (M : Machine) (n : ℕ) → ((s i : ℕ) → s < n → i < M .inputs → M .does (cellAt M s i) .next < n) → (s : ℕ) → s < n → (is : List ℕ)
+path-in : (M : Machine) (n : ℕ) → ((s i : ℕ) → s < n → i < M .inputs → M .does (cellNumber (M .inputs) s i) .next < n) → (s : ℕ) → s < n → (is : List ℕ)
     → ((t : ℕ) → t < length is → getD is t 0 < M .inputs) → (c : ℕ) → has c (path M s is) ≡ true → c < n * M .inputs
 unfolding path has
 path-in M n stays s ls [] within c e = absurd (false≢true e)
 path-in M n stays s ls (i ∷ is) within c e =
-    go (eqb c (cellAt M s i)) refl
-    (path-in M n stays (M .does (cellAt M s i) .next) (stays s i ls (within 0 (omega arith))) is (λ t l. within (suc t) (omega arith)) c) e
+    go (eqb c (cellNumber (M .inputs) s i)) refl
+    (path-in M n stays (M .does (cellNumber (M .inputs) s i) .next) (stays s i ls (within 0 (omega arith))) is (λ t l. within (suc t) (omega arith)) c) e
   where
-    go : (b : Bool) → eqb c (cellAt M s i) ≡ b → (has c (path M (M .does (cellAt M s i) .next) is) ≡ true → c < n * M .inputs)
-        → (b || has c (path M (M .does (cellAt M s i) .next) is)) ≡ true → c < n * M .inputs
-    go true here rest e = omega (arith, eqb-true c (cellAt M s i) here, cell-below n (M .inputs) s i ls (within 0 (omega arith)))
+    go : (b : Bool) → eqb c (cellNumber (M .inputs) s i) ≡ b → (has c (path M (M .does (cellNumber (M .inputs) s i) .next) is) ≡ true → c < n * M .inputs)
+        → (b || has c (path M (M .does (cellNumber (M .inputs) s i) .next) is)) ≡ true → c < n * M .inputs
+    go true here rest e = omega (arith, eqb-true c (cellNumber (M .inputs) s i) here, cell-below n (M .inputs) s i ls (within 0 (omega arith)))
     go false here rest e = rest e
 
 -- so is every cell that the specified machine executes in a case

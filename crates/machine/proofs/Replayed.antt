@@ -13,7 +13,7 @@ use lib.Seq.{drop-cons}
 use borrow.Author.Tests.{eq-eqb, ne-eqb}
 use Rattle.machine.specs.Limits.{stepsMost}
 use Rattle.machine.specs.Head.{HeadIn}
-use Rattle.machine.specs.Machine.{Machine, cellAt}
+use Rattle.machine.specs.Machine.{Machine, cellNumber}
 use Rattle.machine.specs.Case.{CaseIn}
 use Rattle.machine.specs.Run.{run, agrees, differing, firstDiffering, expected, symptomsOf, reproduces}
 use Rattle.machine.specs.Replay.{fresh, passed, failed, stepped, taken, replayed, ReplayIn}
@@ -35,12 +35,12 @@ unfolding replayed
 replay-ended M r is ys t h = rw (drop-of-length-le is h)
 
 -- what holds after a step that agrees and after one that does not holds after the step
-either-way : (M : Machine) (r : Replay) (i y : ℕ) (P : Bool → Replay → Type 0) → P true (passed r (M .does (cellAt M (r .state) i)))
-    → P false (failed r (M .does (cellAt M (r .state) i))) → P (agrees y (M .does (cellAt M (r .state) i) .output)) (taken M r i y)
+either-way : (M : Machine) (r : Replay) (i y : ℕ) (P : Bool → Replay → Type 0) → P true (passed r (M .does (cellNumber (M .inputs) (r .state) i)))
+    → P false (failed r (M .does (cellNumber (M .inputs) (r .state) i))) → P (agrees y (M .does (cellNumber (M .inputs) (r .state) i) .output)) (taken M r i y)
 unfolding taken stepped
-either-way M r i y P agreed differed = go (agrees y (M .does (cellAt M (r .state) i) .output))
+either-way M r i y P agreed differed = go (agrees y (M .does (cellNumber (M .inputs) (r .state) i) .output))
   where
-    go : (b : Bool) → P b (cond b (passed r (M .does (cellAt M (r .state) i))) (failed r (M .does (cellAt M (r .state) i))))
+    go : (b : Bool) → P b (cond b (passed r (M .does (cellNumber (M .inputs) (r .state) i))) (failed r (M .does (cellNumber (M .inputs) (r .state) i))))
     go true = agreed
     go false = differed
 
@@ -50,7 +50,7 @@ unfolding replayed passed failed run differing
 replay-count M r [] ys = omega arith
 replay-count M r (i ∷ is) [] = omega arith
 replay-count M r (i ∷ is) (y ∷ ys) =
-    let to = M .does (cellAt M (r .state) i) in
+    let to = M .does (cellNumber (M .inputs) (r .state) i) in
     let later : ℕ = differing (run M (to .next) is) ys in
     let counted = replay-count M (failed r to) is ys in
     either-way M r i y (λ b q. replayed M q is ys .symptoms ≡ r .symptoms + cond b later (suc later))
@@ -62,7 +62,7 @@ unfolding replayed passed failed
 replay-kept M r [] ys h = refl
 replay-kept M r (i ∷ is) [] h = refl
 replay-kept M r (i ∷ is) (y ∷ ys) h =
-    let to = M .does (cellAt M (r .state) i) in
+    let to = M .does (cellNumber (M .inputs) (r .state) i) in
     let met : eqb (r .symptoms) 0 ≡ false = ne-eqb (r .symptoms) 0 (λ none. omega arith) in
     either-way M r i y (λ b q. replayed M q is ys .first ≡ r .first)
     (replay-kept M (passed r to) is ys h) (replay-kept M (failed r to) is ys (omega arith) ∙ rw met)
@@ -74,7 +74,7 @@ unfolding replayed passed failed run firstDiffering
 replay-first M r [] ys none h = h
 replay-first M r (i ∷ is) [] none h = h
 replay-first M r (i ∷ is) (y ∷ ys) none h =
-    let to = M .does (cellAt M (r .state) i) in
+    let to = M .does (cellNumber (M .inputs) (r .state) i) in
     let here : eqb (r .symptoms) 0 ≡ true = eq-eqb (r .symptoms) 0 none in
     either-way M r i y (λ b q. replayed M q is ys .first ≡ cond b (firstDiffering (suc (r .step)) (run M (to .next) is) ys) (r .step))
     (rw (← add-one (r .step)) (replay-first M (passed r to) is ys none h)) (replay-kept M (failed r to) is ys (omega arith) ∙ rw here)
@@ -90,7 +90,7 @@ pub replay-reproduces : (M : Machine) (is ys : List ℕ) → replayed M fresh is
 replay-reproduces M is ys h = rw (reproduces-symptoms, replay-symptoms) (eq-eqb _ _ h)
 
 -- a step taken from a move is the machine's where the move is
-pub taken-is : (M : Machine) (r : Replay) (to : Move) (i y : ℕ) (x : Replay) → to ≡ M .does (cellAt M (r .state) i) → x ≡ stepped r to y
+pub taken-is : (M : Machine) (r : Replay) (to : Move) (i y : ℕ) (x : Replay) → to ≡ M .does (cellNumber (M .inputs) (r .state) i) → x ≡ stepped r to y
     → x ≡ taken M r i y
 unfolding taken
 taken-is M r to i y x e step = rw (← e) step

@@ -12,7 +12,7 @@ use borrow.Author.Tests.{eqb-false, ne-eqb}
 use Rattle.shapes.proofs.Tests.{and-true, or-false}
 use Rattle.shapes.specs.Keep.{has}
 use Rattle.machine.specs.Limits.{stepsMost}
-use Rattle.machine.specs.Machine.{Machine, cellAt, specified}
+use Rattle.machine.specs.Machine.{Machine, cellNumber, specified}
 use Rattle.machine.specs.Fault.{cellOf, faultOf, changeOf, under, changed}
 use Rattle.machine.specs.Run.{run, path, agrees, differing, firstDiffering, matching, expected, executed, symptomsOf, reproduces}
 use Rattle.machine.specs.declared.head.Head.{Head}
@@ -22,12 +22,12 @@ use Rattle.machine.specs.declared.fault.Change.{Change}
 pub length-run : (M : Machine) (s : ℕ) (is : List ℕ) → length (run M s is) ≡ length is
 unfolding run
 length-run M s [] = refl
-length-run M s (i ∷ is) = ap suc (length-run M (M .does (cellAt M s i) .next) is)
+length-run M s (i ∷ is) = ap suc (length-run M (M .does (cellNumber (M .inputs) s i) .next) is)
 
 pub length-path : (M : Machine) (s : ℕ) (is : List ℕ) → length (path M s is) ≡ length is
 unfolding path
 length-path M s [] = refl
-length-path M s (i ∷ is) = ap suc (length-path M (M .does (cellAt M s i) .next) is)
+length-path M s (i ∷ is) = ap suc (length-path M (M .does (cellNumber (M .inputs) s i) .next) is)
 
 -- prefix: the first steps of a run are the run of the first inputs
 pub prefix-run : (M : Machine) (s : ℕ) (is : List ℕ) (t : ℕ) → take t (run M s is) ≡ run M s (take t is)
@@ -36,21 +36,21 @@ prefix-run M s [] zero = refl
 prefix-run M s [] (suc t) = refl
 prefix-run M s (i ∷ is) zero = refl
 prefix-run M s (i ∷ is) (suc t) =
-    ap (λ (l : List ℕ). M .does (cellAt M s i) .output ∷ l) (prefix-run M (M .does (cellAt M s i) .next) is t)
+    ap (λ (l : List ℕ). M .does (cellNumber (M .inputs) s i) .output ∷ l) (prefix-run M (M .does (cellNumber (M .inputs) s i) .next) is t)
 
 pub prefix-path : (M : Machine) (s : ℕ) (is : List ℕ) (t : ℕ) → take t (path M s is) ≡ path M s (take t is)
 unfolding path
 prefix-path M s [] zero = refl
 prefix-path M s [] (suc t) = refl
 prefix-path M s (i ∷ is) zero = refl
-prefix-path M s (i ∷ is) (suc t) = ap (λ (l : List ℕ). cellAt M s i ∷ l) (prefix-path M (M .does (cellAt M s i) .next) is t)
+prefix-path M s (i ∷ is) (suc t) = ap (λ (l : List ℕ). cellNumber (M .inputs) s i ∷ l) (prefix-path M (M .does (cellNumber (M .inputs) s i) .next) is t)
 
 -- a machine with one change gives the same outputs if the changed cell is never executed
 pub run-never : (M : Machine) (d : Change) (s : ℕ) (is : List ℕ) → has (d .cell) (path M s is) ≡ false → run (under M d) s is ≡ run M s is
 unfolding run path has under
 run-never M d s [] h = refl
 run-never M d s (i ∷ is) h =
-    let c : ℕ = cellAt M s i in
+    let c : ℕ = cellNumber (M .inputs) s i in
     let apart : (eqb (d .cell) c ≡ false) × (has (d .cell) (path M (M .does c .next) is) ≡ false) = or-false _ _ h in
     let other : eqb c (d .cell) ≡ false = ne-eqb c (d .cell) (λ e. eqb-false (d .cell) c (apart .0) (sym e)) in
     rw other (ap (λ (l : List ℕ). M .does c .output ∷ l) (run-never M d (M .does c .next) is (apart .1)))

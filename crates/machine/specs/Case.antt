@@ -1,7 +1,7 @@
 -- What a case must be to be run against a head (document 01, STEP).
 use Prim.Native.Nat.{ℕ, _≤_, _<_}
 use mathlib.Core.Path.{_≡_}
-use mathlib.Core.List.{List}
+use mathlib.Core.List.{List, []}
 use mathlib.Core.Bool.{Bool, _&&_, _||_}
 use lib.Dec.{eqb, leb}
 use lib.ListN.{length, getD}
@@ -19,6 +19,10 @@ pub record Case : Type 0 where
 -- the case of two slices: the inputs, and the outputs that were observed
 abbrev pub asCase : List ℕ → List ℕ → Case
 asCase is ys = record { inputs = is; outputs = ys }
+
+-- the case of no steps, which stands where there is none
+abbrev pub noCase : Case
+noCase = asCase [] []
 
 -- "an input ≥ k" at step i
 abbrev pub badInput : Head → List ℕ → ℕ → Bool

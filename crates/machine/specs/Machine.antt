@@ -18,12 +18,9 @@ initial = 0
 abbrev pub nullOutput : ℕ
 nullOutput = 0
 
--- "Cell number c = state × k + input", of a head and of a machine
-abbrev pub cellNumber : Head → ℕ → ℕ → ℕ
-cellNumber h s i = s * h .inputs + i
-
-abbrev pub cellAt : Machine → ℕ → ℕ → ℕ
-cellAt M s i = s * M .inputs + i
+-- "Cell number c = state × k + input"
+abbrev pub cellNumber : ℕ → ℕ → ℕ → ℕ
+cellNumber k s i = s * k + i
 
 -- "An undefined cell runs as a self-loop with output 0": the move at cell c, which is state s's
 unfoldable pub completed : List ℕ → ℕ → ℕ → Move

@@ -4,7 +4,7 @@ use mathlib.Core.List.{List, [], _∷_}
 use mathlib.Core.Bool.{cond}
 use lib.Dec.{eqb}
 use Rattle.machine.specs.Limits.{stepsMost}
-use Rattle.machine.specs.Machine.{Machine, initial, cellAt}
+use Rattle.machine.specs.Machine.{Machine, initial, cellNumber}
 use Rattle.machine.specs.Run.{agrees}
 use Rattle.machine.specs.declared.head.Head.{Head}
 use Rattle.machine.specs.declared.cell.Move.{Move}
@@ -29,7 +29,7 @@ stepped r to y = cond (agrees y (to .output)) (passed r to) (failed r to)
 
 -- the replay after the machine took input i and y was observed
 unfoldable pub taken : Machine → Replay → ℕ → ℕ → Replay
-taken M r i y = stepped r (M .does (cellAt M (r .state) i)) y
+taken M r i y = stepped r (M .does (cellNumber (M .inputs) (r .state) i)) y
 
 -- the replay after the steps of a case
 unfoldable pub replayed : Machine → Replay → List ℕ → List ℕ → Replay

@@ -5,18 +5,18 @@ use mathlib.Core.List.{List, [], _∷_}
 use mathlib.Core.Bool.{Bool, true, cond, _&&_}
 use lib.Dec.{eqb}
 use Rattle.machine.specs.Limits.{stepsMost}
-use Rattle.machine.specs.Machine.{Machine, initial, cellAt}
+use Rattle.machine.specs.Machine.{Machine, initial, cellNumber}
 use Rattle.machine.specs.declared.replay.Symptoms.{Symptoms}
 
 -- the outputs that the machine gives to the inputs, from a state
 unfoldable pub run : Machine → ℕ → List ℕ → List ℕ
 run M s [] = []
-run M s (i ∷ is) = M .does (cellAt M s i) .output ∷ run M (M .does (cellAt M s i) .next) is
+run M s (i ∷ is) = M .does (cellNumber (M .inputs) s i) .output ∷ run M (M .does (cellNumber (M .inputs) s i) .next) is
 
 -- the cells that it executes
 unfoldable pub path : Machine → ℕ → List ℕ → List ℕ
 path M s [] = []
-path M s (i ∷ is) = cellAt M s i ∷ path M (M .does (cellAt M s i) .next) is
+path M s (i ∷ is) = cellNumber (M .inputs) s i ∷ path M (M .does (cellNumber (M .inputs) s i) .next) is
 
 -- an observed output agrees with a given one: it is equal
 unfoldable pub agrees : ℕ → ℕ → Bool

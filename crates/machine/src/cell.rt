@@ -78,7 +78,8 @@ pub fn completed_move(cells: &[u8], state: usize, cell: usize) -> Move
 pub fn cell_of(head: Head, state: usize, input: usize) -> usize
     requires { ⌜ HeadIn head ⌝ }
     requires { ⌜ (state < head .states) × (input < head .inputs) ⌝ }
-    ensures { λ r. ⌜ (r ≡ cellNumber head state input) × (r < cellCount head) ⌝ }
+    ensures { λ r. ⌜ r ≡ cellNumber (head .inputs) state input ⌝ }
+    ensures { λ r. ⌜ r < cellCount head ⌝ }
 {
     state * head.inputs + input
 }
@@ -87,7 +88,7 @@ pub fn cell_of(head: Head, state: usize, input: usize) -> usize
 pub fn specified_move(head: Head, cells: &[u8], state: usize, input: usize) -> Move
     requires { ⌜ TableIn head (now cells) ⌝ }
     requires { ⌜ (state < head .states) × (input < head .inputs) ⌝ }
-    ensures moves { λ r. ⌜ r ≡ specified head (now (cells .entry)) .does (cellNumber head state input) ⌝ }
+    ensures moves { λ r. ⌜ r ≡ specified head (now (cells .entry)) .does (cellNumber (head .inputs) state input) ⌝ }
     ensures state { λ r. ⌜ r .next < head .states ⌝ }
 {
     let cell = cell_of(head, state, input);

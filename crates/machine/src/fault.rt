@@ -4,7 +4,7 @@ use crate::cell::completed_move;
 use crate::cell::is_undefined;
 use crate::head::Head;
 ghost use mathlib.Core.Path.{_≡_};
-ghost use Prim.Native.Nat.{_+_, _*_, _<_};
+ghost use Prim.Native.Nat.{_<_};
 ghost use Rattle.machine.specs.Limits.{numbersMost};
 ghost use Rattle.machine.specs.Head.{HeadIn, numbers};
 ghost use Rattle.machine.specs.Cell.{TableIn};

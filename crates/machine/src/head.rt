@@ -55,7 +55,8 @@ impl Head {
     // How many cells the table has.
     pub fn cells(self) -> usize
         requires { ⌜ HeadIn self ⌝ }
-        ensures { λ r. ⌜ (r ≡ cellCount self) × (r ≤ cellsMost) ⌝ }
+        ensures { λ r. ⌜ r ≡ cellCount self ⌝ }
+        ensures { λ r. ⌜ r ≤ cellsMost ⌝ }
     {
         self.states * self.inputs
     }
@@ -63,7 +64,8 @@ impl Head {
     // How many fault numbers the table has.
     pub fn numbers(self) -> usize
         requires { ⌜ HeadIn self ⌝ }
-        ensures { λ r. ⌜ (r ≡ numbers self) × (r ≤ numbersMost) ⌝ }
+        ensures { λ r. ⌜ r ≡ numbers self ⌝ }
+        ensures { λ r. ⌜ r ≤ numbersMost ⌝ }
     {
         self.cells() * (self.states + self.outputs)
     }

@@ -96,7 +96,8 @@ fn specified_step(head: Head, cells: &[u8], replay: Replay, input: usize, observ
     requires { ⌜ ReplayIn head replay ⌝ }
     requires { ⌜ (replay .step < stepsMost) × (input < head .inputs) ⌝ }
     ensures step { λ r. ⌜ r ≡ taken (specified head (now (cells .entry))) replay input observed ⌝ }
-    ensures known { λ r. ⌜ (ReplayIn head r) × (r .step ≡ replay .step + 1) ⌝ }
+    ensures known { λ r. ⌜ ReplayIn head r ⌝ }
+    ensures next { λ r. ⌜ r .step ≡ replay .step + 1 ⌝ }
 {
     let to = specified_move(head, cells, replay.state, input);
     replay.step(to, observed)
@@ -107,7 +108,7 @@ fn changed_move(head: Head, cells: &[u8], at: usize, to: Move, state: usize, inp
     requires { ⌜ TableIn head (now cells) ⌝ }
     requires { ⌜ to .next < head .states ⌝ }
     requires { ⌜ (state < head .states) × (input < head .inputs) ⌝ }
-    ensures moves { λ r. ⌜ r ≡ under (specified head (now (cells .entry))) (changeAt at to) .does (cellNumber head state input) ⌝ }
+    ensures moves { λ r. ⌜ r ≡ under (specified head (now (cells .entry))) (changeAt at to) .does (cellNumber (head .inputs) state input) ⌝ }
     ensures state { λ r. ⌜ r .next < head .states ⌝ }
 {
     let cell = cell_of(head, state, input);
@@ -131,7 +132,8 @@ fn changed_step(
     requires { ⌜ ReplayIn head replay ⌝ }
     requires { ⌜ (replay .step < stepsMost) × (input < head .inputs) ⌝ }
     ensures step { λ r. ⌜ r ≡ taken (under (specified head (now (cells .entry))) change) replay input observed ⌝ }
-    ensures known { λ r. ⌜ (ReplayIn head r) × (r .step ≡ replay .step + 1) ⌝ }
+    ensures known { λ r. ⌜ ReplayIn head r ⌝ }
+    ensures next { λ r. ⌜ r .step ≡ replay .step + 1 ⌝ }
 {
     let to = changed_move(head, cells, change.cell, change.to, replay.state, input);
     replay.step(to, observed)

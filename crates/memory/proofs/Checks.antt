@@ -116,8 +116,8 @@ module _ (s : List ℕ) where
   headed-in n = rw (n .same) (head-in _ (n .good))
 
   -- a session has room for the cells
-  pub cells-room : {n : ℕ} → sessionSize ≤ length s → n ≤ cellsMost → 2 * n ≤ length (take (placesAt - sessionCellsAt) (drop sessionCellsAt s))
-  cells-room r l = simp (length-take, length-drop) (omega arith)
+  pub session-cells-room : {n : ℕ} → sessionSize ≤ length s → n ≤ cellsMost → 2 * n ≤ length (take (placesAt - sessionCellsAt) (drop sessionCellsAt s))
+  session-cells-room r l = simp (length-take, length-drop) (omega arith)
 
   module _ {h : Head} {b n : ℕ} (k : Headed s h) (e : b ≡ firstBad h (take (placesAt - sessionCellsAt) (drop sessionCellsAt s))) (c : n ≡ cellCount h) where
     -- a bad cell makes the table bad,

@@ -13,10 +13,10 @@ use Rattle.shapes.proofs.Keep.{count-among}
 use Rattle.shapes.proofs.Tests.{and-true}
 use Rattle.machine.specs.Limits.{stepsMost}
 use Rattle.machine.specs.Head.{numbers}
-use Rattle.machine.specs.Case.{Case, goodCase}
+use Rattle.machine.specs.Case.{Case, goodCase, noCase}
 use Rattle.machine.specs.declared.head.Head.{Head}
 use Rattle.machine.proofs.Cases.{case-in}
-use Rattle.memory.specs.Layout.{placesMost, sessionSize, talliesSize, headOf, stepsOf, isHeld, caseOf, cases, freePlace, noCase}
+use Rattle.memory.specs.Layout.{placesMost, sessionSize, talliesSize, headOf, stepsOf, isHeld, caseOf, cases, freePlace}
 use Rattle.memory.specs.Form.{goodPlace, tallyMost, Formed, isSlot}
 use Rattle.memory.specs.Store.{placed}
 use Rattle.memory.proofs.Formed.{table-good, formed-table, formed-place, formed-tally, formed-from, place-few, free-low, free-none}

@@ -62,13 +62,13 @@ module _ (s t : List ℕ) where
       let j = ruling-joined (formRules s t) _ e in (rules-formed (j .0), not-false _ (fine-when _ .0 (j .1) .0))
 
 -- the table of a session, with the head read from it, was tested
-pub table-known : (s : List ℕ) {h : Head} → h ≡ headOf s → sessionSize ≤ length s → goodTable s ≡ true → TableIn h (cellsOf s)
-table-known s e room g = rw e (table-good s room g)
+pub session-table : (s : List ℕ) {h : Head} → h ≡ headOf s → sessionSize ≤ length s → goodTable s ≡ true → TableIn h (cellsOf s)
+session-table s e room g = rw e (table-good s room g)
 
 -- and so was the case of a good place that holds one: it can be run
 pub case-runs : (s : List ℕ) (p : ℕ) {h : Head} {c : Case} → sessionSize ≤ length s → goodTable s ≡ true → goodPlace s p ≡ true → isHeld s p ≡ true
     → h ≡ headOf s → c ≡ caseOf s p → TableIn h (cellsOf s) × CaseIn h (c .inputs) (c .outputs)
-case-runs s p room table good held same e = (table-known s same room table, rw (same, e) (place-case s p good held))
+case-runs s p room table good held same e = (session-table s same room table, rw (same, e) (place-case s p good held))
 
 -- the two parts of a session that the code takes as the case of a place that it read
 abbrev pub caseRead : List ℕ → Place → Case

@@ -17,9 +17,9 @@ use Rattle.shapes.proofs.Edit.{length-edit, edit-in, edit-out-below, edit-out-a
 use Rattle.machine.specs.Limits.{stepsMost}
 use Rattle.machine.specs.Head.{goodHead, cellCount}
 use Rattle.machine.specs.Cell.{firstBad}
-use Rattle.machine.specs.Case.{Case, goodCase}
+use Rattle.machine.specs.Case.{Case, goodCase, noCase}
 use Rattle.machine.specs.declared.head.Head.{Head}
-use Rattle.memory.specs.Layout.{placesMost, sessionCellsAt, cellsRoom, placesAt, placeSize, sessionSize, headOf, cellsOf, placeAt, stepsOf, isHeld, caseOf, caseIf, heldTo, cases, placeByte, noCase}
+use Rattle.memory.specs.Layout.{placesMost, sessionCellsAt, cellsRoom, placesAt, placeSize, sessionSize, headOf, cellsOf, placeAt, stepsOf, isHeld, caseOf, caseIf, heldTo, cases, placeByte}
 use Rattle.memory.specs.Form.{goodTable, zerosAfter, goodPlace}
 use Rattle.memory.specs.Store.{placed}
 

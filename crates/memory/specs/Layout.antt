@@ -92,7 +92,3 @@ placeByte c i =
     cond (eqb i 0) (length (c .inputs))
     (cond (ltb i (1 + stepsMost)) (getD (c .inputs) (i - 1) 0)
     (getD (c .outputs) (i - (1 + stepsMost)) 0))
-
--- the case of a free place
-abbrev pub noCase : Case
-noCase = record { inputs = []; outputs = [] }

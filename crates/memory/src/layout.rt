@@ -76,7 +76,8 @@ pub fn free_place(session: &[u8]) -> usize
 // How many cases a session holds.
 pub fn count_held(session: &[u8]) -> usize
     requires { ⌜ sessionSize ≤ length (now session) ⌝ }
-    ensures { λ r. ⌜ (r ≡ length (cases (now (session .entry)))) × (r ≤ placesMost) ⌝ }
+    ensures { λ r. ⌜ r ≡ length (cases (now (session .entry))) ⌝ }
+    ensures { λ r. ⌜ r ≤ placesMost ⌝ }
 {
     let mut count = 0;
     let mut place = 0;

@@ -9,8 +9,8 @@ ghost use mathlib.Core.Path.{_≡_};
 ghost use Prim.Native.Nat.{_+_, _≤_, _<_};
 ghost use lib.ListN.{length, getD};
 ghost use Rattle.machine.specs.Limits.{stepsMost};
-ghost use Rattle.machine.specs.Case.{asCase};
-ghost use Rattle.memory.specs.Layout.{placesMost, sessionSize, talliesSize, noCase};
+ghost use Rattle.machine.specs.Case.{asCase, noCase};
+ghost use Rattle.memory.specs.Layout.{placesMost, sessionSize, talliesSize};
 ghost use Rattle.memory.specs.Store.{stepsStored, placed, started, cleared};
 
 // The byte at a place of a slice, 0 past its end.

@@ -7,10 +7,11 @@ use house::table::put_table_head;
 use machine::cell::UNDEFINED;
 use machine::head::Head;
 ghost use mathlib.Core.Path.{_≡_};
-ghost use Prim.Native.Nat.{_+_, _*_, _<_, _≤_};
-ghost use lib.ListN.{length, getD};
+ghost use Prim.Native.Nat.{_<_, _≤_};
+ghost use lib.ListN.{length};
 ghost use Rattle.shapes.specs.Edit.{filled};
 ghost use Rattle.machine.specs.Head.{HeadIn, cellCount};
+ghost use Rattle.machine.specs.Cell.{nextByte, outputByte};
 ghost use Rattle.house.specs.Refusal.{wrote};
 ghost use Rattle.house.specs.Table.{tableBytes, fileCellsAt};
 ghost use Rattle.product.specs.Tables.{productHead, productCells, written};
@@ -87,7 +88,8 @@ impl Product {
 
     fn entry(self, cell: usize) -> Entry
         requires { ⌜ cell < cellCount (productHead self) ⌝ }
-        ensures { λ r. ⌜ (r .next ≡ getD (productCells self) (2 * cell) 0) × (r .output ≡ getD (productCells self) (2 * cell + 1) 0) ⌝ }
+        ensures next { λ r. ⌜ r .next ≡ nextByte (productCells self) cell ⌝ }
+        ensures output { λ r. ⌜ r .output ≡ outputByte (productCells self) cell ⌝ }
     {
         match self {
             Product::FiveLitre => FIVE_LITRE[cell],

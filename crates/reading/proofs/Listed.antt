@@ -36,7 +36,7 @@ use Rattle.diagnosis.specs.declared.Verdict.{Verdict}
 use Rattle.diagnosis.specs.declared.Verdict.the-variants as verdicts
 use Rattle.diagnosis.proofs.Lists.{list-by-tallies}
 use Rattle.diagnosis.proofs.Candidates.{candidate-law}
-use Rattle.memory.specs.Layout.{headOf, cellsOf, placeAt, stepsOf, isHeld, caseOf, caseIf, heldTo, cases}
+use Rattle.memory.specs.Layout.{headOf, cellsOf, placeAt, stepsOf, isHeld, caseOf, caseIf, casesAt, heldTo, cases}
 use Rattle.memory.specs.Form.{Formed, formRules, slotRules}
 use Rattle.session.specs.Tallies.{TrueTallies}
 use Rattle.reading.specs.Reads.{machineOf, listOf, verdictIn, listRules, listed, listCall, falseTally, auditCall, symptomsCall}
@@ -189,10 +189,10 @@ module _ (s : List ℕ) where
       go rest (inr h) = rw (rest h)
 
   -- a place's case counts with those below it
-  pub count-turn : (q : Case → Bool) (p n x : ℕ) → n ≡ count q (heldTo s p) → x ≡ count q (caseIf (isHeld s p) (caseOf s p))
-      → n + x ≡ count q (heldTo s (p + 1))
-  unfolding heldTo
-  count-turn q p n x e d = rw (add-one, count-append, e, d)
+  pub tally-turn : (f p n x : ℕ) → n ≡ tally (headOf s) (cellsOf s) (heldTo s p) f → x ≡ tally (headOf s) (cellsOf s) (casesAt s p) f
+      → n + x ≡ tally (headOf s) (cellsOf s) (heldTo s (p + 1)) f
+  unfolding heldTo tally
+  tally-turn f p n x e d = rw (add-one, count-append, e, d)
 
 -- whether a tally is false
 abbrev pub falseAt : List ℕ → List ℕ → ℕ → Bool
@@ -220,8 +220,8 @@ module _ (s : List ℕ) (p : ℕ) {here : Place} (e : here ≡ record { at = pla
 
   -- whether a number's machine misses it,
   pub missed-told : (f : ℕ) {r : Bool} → r ≡ misses h (cellsOf s) f (caseRead s here) → isHeld s p ≡ true
-      → (boolByte r ≡ count (misses (headOf s) (cellsOf s) f) (caseIf (isHeld s p) (caseOf s p))) × (boolByte r ≤ 1)
-  unfolding count
+      → (boolByte r ≡ tally (headOf s) (cellsOf s) (casesAt s p) f) × (boolByte r ≤ 1)
+  unfolding tally count
   missed-told f d k =
       let told : _ ≡ misses (headOf s) (cellsOf s) f (caseOf s p) = d ∙ rw (parts-case s p e, same) in rw (k, add-zero) (bit-told told)
 

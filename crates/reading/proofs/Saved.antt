@@ -12,7 +12,7 @@ use native.Mathlib.Omega.{arith}
 use borrow.Author.Tests.{lt-ltb, le-ltb}
 use lib.ListN.{length, getD, length-append, length-drop}
 use lib.Seq.{length-take-le}
-use Rattle.shapes.specs.Edit.{edit, filled}
+use Rattle.shapes.specs.Edit.{edit, filled, placeAfter}
 use Rattle.shapes.specs.Keep.{bit, every}
 use Rattle.shapes.specs.Refusals.{Rule, when, fine, refused, ruling}
 use Rattle.shapes.proofs.Edit.{length-edit, edit-in, edit-out-above, edit-kept, edit-ext, length-filled, filled-append}
@@ -33,7 +33,7 @@ use Rattle.diagnosis.specs.Loops.{narrowed, Bits}
 use Rattle.memory.specs.Layout.{placesMost, sessionSize, headOf, cellsOf, placeAt, stepsOf, isHeld, caseOf, caseIf, heldTo, cases}
 use Rattle.memory.specs.Form.{goodPlace, formRules, slotRules}
 use Rattle.reading.specs.Reads.{machineOf, saveRules, saveCall, bytesRules, conflictCall, candidateBytes, candidatesCall}
-use Rattle.reading.specs.Loops.{narrowedIf, narrowedAll}
+use Rattle.reading.specs.Loops.{bytesAt, narrowedIf, narrowedAll}
 use Rattle.memory.specs.declared.layout.Place.{Place}
 use Rattle.memory.proofs.Formed.{place-few}
 use Rattle.memory.proofs.Known.{told-fine, told-refused, held-read, free-read, place-within}
@@ -73,21 +73,21 @@ filled-none l at = refl
 module _ (s : List ℕ) (p : ℕ) (room : sessionSize ≤ length s) (inside : p < placesMost) (good : goodPlace s p ≡ true) {here : Place}
     (e : here ≡ record { at = placeAt p; steps = stepsOf s p }) where
   -- the bytes of a free place: none
-  pub bytes-free : here .steps ≡ 0 → restOf (caseIf (isHeld s p) (caseOf s p)) ≡ []
+  pub bytes-free : here .steps ≡ 0 → bytesAt s p ≡ []
   bytes-free z = rw (free-read s p e z) (rest-none (caseOf s p))
 
   -- those of a held one: its case's,
-  bytes-held : (here .steps ≡ 0 → ⊥) → restOf (caseIf (isHeld s p) (caseOf s p)) ≡ caseBytes (caseOf s p)
+  bytes-held : (here .steps ≡ 0 → ⊥) → bytesAt s p ≡ caseBytes (caseOf s p)
   bytes-held z = rw (held-read s p e z) (rest-one (caseOf s p))
 
   -- as many as the code counts
-  pub bytes-count : (here .steps ≡ 0 → ⊥) → 1 + 2 * here .steps ≡ length (restOf (caseIf (isHeld s p) (caseOf s p)))
+  pub bytes-count : (here .steps ≡ 0 → ⊥) → 1 + 2 * here .steps ≡ length (bytesAt s p)
   bytes-count z =
       rw (bytes-held z, case-long s p room inside (place-few s p good)) (omega (arith, place-within s p e good))
 
   -- a held place's case can be written where its bytes have room,
   pub put-fits : {c : Case} (at n : ℕ) → c ≡ caseOf s p → (here .steps ≡ 0 → ⊥)
-      → at + length (restOf (caseIf (isHeld s p) (caseOf s p))) ≤ n
+      → at + length (bytesAt s p) ≤ n
       → ((length (c .inputs) ≤ stepsMost) × (length (c .outputs) ≡ length (c .inputs))) × (at + 1 + 2 * length (c .inputs) ≤ n)
   put-fits at n ec z fits =
       let few = place-few s p good in
@@ -97,12 +97,9 @@ module _ (s : List ℕ) (p : ℕ) (room : sessionSize ≤ length s) (inside : p 
 
   -- and once written it stands there
   pub put-bytes : {c : Case} (at r : ℕ) (l out : List ℕ) → c ≡ caseOf s p → (here .steps ≡ 0 → ⊥)
-      → (r ≡ at + 1 + 2 * length (c .inputs)) × (l ≡ filled out at (caseBytes c))
-      → (r ≡ at + length (restOf (caseIf (isHeld s p) (caseOf s p)))) × (l ≡ filled out at (restOf (caseIf (isHeld s p) (caseOf s p))))
-  put-bytes at r l out ec z k =
-      let k′ = rw ec at k in
-      let i = inputs-long s p room inside (place-few s p good) in
-      (omega (arith, bytes-count z, place-within s p e good), rw (bytes-held z) (k′ .1))
+      → (r ≡ placeAfter at (caseBytes c)) × (l ≡ filled out at (caseBytes c))
+      → (r ≡ placeAfter at (bytesAt s p)) × (l ≡ filled out at (bytesAt s p))
+  put-bytes at r l out ec z k = rw (bytes-held z) (rw ec at k)
 
   -- a free place leaves the candidates,
   pub free-narrows : (out : List ℕ) → here .steps ≡ 0 → out ≡ narrowedIf (isHeld s p) (machineOf s) (caseOf s p) out
@@ -121,7 +118,7 @@ rest-append (c ∷ a) b = rw (rest-append a b, append-assoc)
 
 module _ (s : List ℕ) where
   -- the bytes of the cases held below the next place
-  rest-more : (p : ℕ) → restOf (heldTo s (suc p)) ≡ restOf (heldTo s p) ++ restOf (caseIf (isHeld s p) (caseOf s p))
+  rest-more : (p : ℕ) → restOf (heldTo s (suc p)) ≡ restOf (heldTo s p) ++ bytesAt s p
   unfolding heldTo
   rest-more p = rest-append (heldTo s p) _
 
@@ -141,23 +138,23 @@ module _ (s : List ℕ) where
   rest-begins = refl
 
   -- counts those of a place more,
-  pub rest-turn : (p at n : ℕ) → at ≡ restAt + length (restOf (heldTo s p)) → n ≡ length (restOf (caseIf (isHeld s p) (caseOf s p)))
+  pub rest-turn : (p at n : ℕ) → at ≡ restAt + length (restOf (heldTo s p)) → n ≡ length (bytesAt s p)
       → at + n ≡ restAt + length (restOf (heldTo s (p + 1)))
   rest-turn p at n e k = rw (add-one, rest-more, length-append) (omega arith)
 
   -- has room for them where all have,
   pub rest-room : (p at : ℕ) (l out : List ℕ) → p < placesMost → at ≡ restAt + length (restOf (heldTo s p))
       → l ≡ filled out restAt (restOf (heldTo s p)) → restAt + length (restOf (cases s)) ≤ length out
-      → at + length (restOf (caseIf (isHeld s p) (caseOf s p))) ≤ length l
+      → at + length (bytesAt s p) ≤ length l
   unfolding cases
   rest-room p at l out k e el room =
       let g = rest-grows (suc p) placesMost k in
-      let m = ap length (rest-more p) ∙ length-append (restOf (heldTo s p)) (restOf (caseIf (isHeld s p) (caseOf s p))) in
+      let m = ap length (rest-more p) ∙ length-append (restOf (heldTo s p)) (bytesAt s p) in
       rw (el, length-filled) (omega arith)
 
   -- and writes them after those before
   pub rest-written : (p at : ℕ) (l m out : List ℕ) → at ≡ restAt + length (restOf (heldTo s p)) → l ≡ filled out restAt (restOf (heldTo s p))
-      → m ≡ filled l at (restOf (caseIf (isHeld s p) (caseOf s p))) → m ≡ filled out restAt (restOf (heldTo s (p + 1)))
+      → m ≡ filled l at (bytesAt s p) → m ≡ filled out restAt (restOf (heldTo s (p + 1)))
   rest-written p at l m out e el em =
       rw (em, el, e, add-one, rest-more) (filled-append out restAt (restOf (heldTo s p)) _)
 

@@ -7,11 +7,12 @@ use Rattle.machine.specs.Machine.{Machine}
 use Rattle.machine.specs.Case.{Case}
 use Rattle.machine.specs.Fault.{isFault}
 use Rattle.machine.specs.declared.head.Head.{Head}
+use Rattle.house.specs.Cases.{restOf}
 use Rattle.diagnosis.specs.Diagnosis.{fails}
 use Rattle.diagnosis.specs.Loops.{narrowed}
 use Rattle.diagnosis.specs.declared.Verdict.{Verdict}
 use Rattle.diagnosis.specs.declared.Verdict.the-variants as verdicts
-use Rattle.memory.specs.Layout.{isHeld, caseOf}
+use Rattle.memory.specs.Layout.{isHeld, caseOf, casesAt}
 use Rattle.reading.specs.Reads.{machineOf}
 
 -- a number with this tally is listed: it is a fault, and the tally is 0
@@ -21,6 +22,10 @@ isListedBy h cells f tally = isFault h cells f && eqb tally 0
 -- a place holds a case that fails
 abbrev pub failsAt : List ℕ → ℕ → Bool
 failsAt s p = isHeld s p && fails (machineOf s) (caseOf s p)
+
+-- the bytes that the case of a place has in a record: none where the place is free
+abbrev pub bytesAt : List ℕ → ℕ → List ℕ
+bytesAt s p = restOf (casesAt s p)
 
 -- the verdict from how many are listed
 abbrev pub verdictBy : Bool → ℕ → Verdict

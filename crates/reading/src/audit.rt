@@ -10,11 +10,10 @@ use memory::layout::SESSION_CELLS_AT;
 use memory::layout::head_of;
 ghost use mathlib.Core.Path.{_≡_};
 ghost use mathlib.Core.Bool.{true};
-ghost use Prim.Native.Nat.{_+_, _≤_, _<_};
+ghost use Prim.Native.Nat.{_≤_, _<_};
 ghost use lib.ListN.{length};
-ghost use Rattle.shapes.specs.Keep.{count};
 ghost use Rattle.machine.specs.Head.{numbers};
-ghost use Rattle.diagnosis.specs.Diagnosis.{misses, tally};
+ghost use Rattle.diagnosis.specs.Diagnosis.{tally};
 ghost use Rattle.memory.specs.Layout.{placesMost, sessionSize, headOf, cellsOf, casesAt, cases};
 ghost use Rattle.memory.specs.Form.{goodTable, goodPlace, goodPlaces, Formed};
 ghost use Rattle.reading.specs.Reads.{falseTally, auditCall};
@@ -31,7 +30,8 @@ fn missed_at(session: &[u8], place: usize, number: usize) -> usize
     requires { ⌜ (sessionSize ≤ length (now session)) × (place < placesMost) ⌝ }
     requires { ⌜ (goodTable (now session) ≡ true) × (goodPlace (now session) place ≡ true) ⌝ }
     requires { ⌜ number < numbers (headOf (now session)) ⌝ }
-    ensures { λ r. ⌜ (r ≡ count (misses (headOf (now (session .entry))) (cellsOf (now (session .entry))) number) (casesAt (now (session .entry)) place)) × (r ≤ 1) ⌝ }
+    ensures { λ r. ⌜ r ≡ tally (headOf (now (session .entry))) (cellsOf (now (session .entry))) (casesAt (now (session .entry)) place) number ⌝ }
+    ensures { λ r. ⌜ r ≤ 1 ⌝ }
 {
     let here = Place::of(session, place);
     let steps = here.steps;

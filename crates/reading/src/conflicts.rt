@@ -18,7 +18,7 @@ use memory::layout::SESSION_CELLS_AT;
 use memory::layout::head_of;
 ghost use mathlib.Core.Path.{_≡_};
 ghost use mathlib.Core.Bool.{true};
-ghost use Prim.Native.Nat.{_+_, _≤_, _<_};
+ghost use Prim.Native.Nat.{_≤_, _<_};
 ghost use lib.ListN.{length};
 ghost use Rattle.house.specs.Refusal.{wrote};
 ghost use Rattle.diagnosis.specs.Loops.{Bits};

@@ -13,14 +13,12 @@ use memory::layout::SESSION_CELLS_AT;
 use memory::layout::head_of;
 ghost use mathlib.Core.Path.{_≡_};
 ghost use mathlib.Core.Bool.{true};
-ghost use Prim.Native.Nat.{_+_, _≤_, _<_};
+ghost use Prim.Native.Nat.{_≤_, _<_};
 ghost use lib.ListN.{length};
 ghost use Rattle.shapes.specs.Edit.{filled};
-ghost use Rattle.shapes.specs.Keep.{count};
 ghost use Rattle.machine.specs.Limits.{numbersMost};
-ghost use Rattle.machine.specs.Head.{numbers};
 ghost use Rattle.machine.specs.Cell.{TableIn};
-ghost use Rattle.diagnosis.specs.Diagnosis.{tally, someFails};
+ghost use Rattle.diagnosis.specs.Diagnosis.{someFails};
 ghost use Rattle.memory.specs.Layout.{placesMost, sessionSize, headOf, cellsOf, cases};
 ghost use Rattle.memory.specs.Form.{goodTable, goodPlace, goodPlaces, Formed};
 ghost use Rattle.reading.specs.Reads.{listOf, listed, listCall};
@@ -43,7 +41,8 @@ fn is_listed(head: Head, cells: &[u8], number: usize, tally: usize) -> bool
 // How many faults are listed.
 fn count_listed(session: &[u8], tallies: &[u16]) -> usize
     requires { ⌜ Formed (now session) (now tallies) ⌝ }
-    ensures { λ r. ⌜ (r ≡ length (listOf (now (session .entry)) (now (tallies .entry)))) × (r ≤ numbersMost) ⌝ }
+    ensures { λ r. ⌜ r ≡ length (listOf (now (session .entry)) (now (tallies .entry))) ⌝ }
+    ensures { λ r. ⌜ r ≤ numbersMost ⌝ }
 {
     let head = head_of(session);
     let numbers = head.numbers();

@@ -11,21 +11,23 @@ use memory::form::check_form;
 use memory::layout::Place;
 ghost use mathlib.Core.Path.{_≡_};
 ghost use mathlib.Core.Bool.{true};
-ghost use Prim.Native.Nat.{_+_, _≤_, _<_};
+ghost use Prim.Native.Nat.{_≤_, _<_};
 ghost use lib.ListN.{length};
-ghost use Rattle.shapes.specs.Edit.{filled};
+ghost use Rattle.shapes.specs.Edit.{filled, placeAfter};
 ghost use Rattle.house.specs.Refusal.{wrote};
 ghost use Rattle.house.specs.Cases.{recordFile, restOf};
 ghost use Rattle.house.specs.File.{restAt};
-ghost use Rattle.memory.specs.Layout.{placesMost, sessionSize, casesAt, cases};
+ghost use Rattle.memory.specs.Layout.{placesMost, placeSize, sessionSize, cases};
 ghost use Rattle.memory.specs.Form.{goodPlace, goodPlaces};
 ghost use Rattle.reading.specs.Reads.{saveCall};
+ghost use Rattle.reading.specs.Loops.{bytesAt};
 
 // How many bytes the case of a place takes in a record: none where it is free.
 fn case_bytes(session: &[u8], place: usize) -> usize
     requires { ⌜ (sessionSize ≤ length (now session)) × (place < placesMost) ⌝ }
     requires { ⌜ goodPlace (now session) place ≡ true ⌝ }
-    ensures { λ r. ⌜ (r ≡ length (restOf (casesAt (now (session .entry)) place))) × (r ≤ 511) ⌝ }
+    ensures { λ r. ⌜ r ≡ length (bytesAt (now (session .entry)) place) ⌝ }
+    ensures { λ r. ⌜ r ≤ placeSize ⌝ }
 {
     let here = Place::of(session, place);
     if here.steps == 0 {
@@ -38,7 +40,8 @@ fn case_bytes(session: &[u8], place: usize) -> usize
 fn record_bytes(session: &[u8]) -> usize
     requires { ⌜ sessionSize ≤ length (now session) ⌝ }
     requires { ⌜ goodPlaces (now session) ≡ true ⌝ }
-    ensures { λ r. ⌜ (r ≡ length (recordFile (cases (now (session .entry))))) × (r < 65536) ⌝ }
+    ensures { λ r. ⌜ r ≡ length (recordFile (cases (now (session .entry)))) ⌝ }
+    ensures { λ r. ⌜ r < 65536 ⌝ }
 {
     let mut bytes = REST;
     let mut place = 0;
@@ -53,9 +56,9 @@ fn record_bytes(session: &[u8]) -> usize
 fn write_case(session: &[u8], place: usize, out: &mut [u8], at: usize) -> usize
     requires { ⌜ (sessionSize ≤ length (now session)) × (place < placesMost) ⌝ }
     requires { ⌜ goodPlace (now session) place ≡ true ⌝ }
-    requires { ⌜ at + length (restOf (casesAt (now session) place)) ≤ length (now out) ⌝ }
-    ensures next { λ r. ⌜ r ≡ at + length (restOf (casesAt (now (session .entry)) place)) ⌝ }
-    ensures written { λ r. ⌜ now (out .exit) ≡ filled (now (out .entry)) at (restOf (casesAt (now (session .entry)) place)) ⌝ }
+    requires { ⌜ placeAfter at (bytesAt (now session) place) ≤ length (now out) ⌝ }
+    ensures next { λ r. ⌜ r ≡ placeAfter at (bytesAt (now (session .entry)) place) ⌝ }
+    ensures written { λ r. ⌜ now (out .exit) ≡ filled (now (out .entry)) at (bytesAt (now (session .entry)) place) ⌝ }
 {
     let here = Place::of(session, place);
     let steps = here.steps;
@@ -76,7 +79,7 @@ fn write_case(session: &[u8], place: usize, out: &mut [u8], at: usize) -> usize
 fn write_cases(session: &[u8], out: &mut [u8])
     requires { ⌜ sessionSize ≤ length (now session) ⌝ }
     requires { ⌜ goodPlaces (now session) ≡ true ⌝ }
-    requires { ⌜ restAt + length (restOf (cases (now session))) ≤ length (now out) ⌝ }
+    requires { ⌜ placeAfter restAt (restOf (cases (now session))) ≤ length (now out) ⌝ }
     ensures { λ _. ⌜ now (out .exit) ≡ filled (now (out .entry)) restAt (restOf (cases (now (session .entry)))) ⌝ }
 {
     let mut at = REST;

@@ -11,7 +11,7 @@ use native.Mathlib.Omega.{arith}
 use lib.ListN.{length, getD, take, drop, length-append, length-drop}
 use lib.Seq.{take-suc, take-at, getD-drop, drop-drop}
 use Rattle.shapes.specs.Refusals.{ruling, fine}
-use Rattle.machine.specs.Case.{Case}
+use Rattle.machine.specs.Case.{Case, noCase}
 use Rattle.house.specs.File.{restAt, fileOf, fileHead}
 use Rattle.house.specs.Cases.{caseBytes, restOf, recordFile, stepsAt, caseFits, caseAt, casesFrom, casesIn, countIn, countOf, recordRules}
 use Rattle.house.specs.Walk.{placeOf}
@@ -41,13 +41,13 @@ cases-stand-from file n (suc i) h =
     rw (← add-one i, ← drop-drop 1 i (casesFrom file n restAt)) (ap (drop 1) e)
 
 -- so the case at the place of a position is the case at the position
-pub case-placed : (file : List ℕ) (i : ℕ) → i < countOf (countIn file) → caseAt file (placeOf file i) ≡ atPosition (casesIn file) i
+pub case-positioned : (file : List ℕ) (i : ℕ) → i < countOf (countIn file) → caseAt file (placeOf file i) ≡ atPosition (casesIn file) i
 unfolding casesIn atPosition
-case-placed file i h =
+case-positioned file i h =
     let n : ℕ = countOf (countIn file) in
     let e = cases-stand-from file n i (omega arith) ∙ next-case file n i (placeOf file i) h in
-    let d = getD-drop i (casesFrom file n restAt) 0 (record { inputs = []; outputs = [] }) in
-    sym (ap (λ l. getD l 0 (record { inputs = []; outputs = [] })) e) ∙ d ∙ rw add-zero
+    let d = getD-drop i (casesFrom file n restAt) 0 noCase in
+    sym (ap (λ l. getD l 0 noCase) e) ∙ d ∙ rw add-zero
 
 -- one case more is its bytes more
 rest-more : (cs : List Case) (c : Case) → length (restOf (cs ++ (c ∷ []))) ≡ length (restOf cs) + length (caseBytes c)
@@ -66,13 +66,12 @@ module _ (file : List ℕ) (ok : ruling (recordRules file) ≡ fine) where
   unfolding placeOf placeIn restOf atPosition
   place-in zero h = sym (record-size [])
   place-in (suc i) h =
-      let none : Case = record { inputs = []; outputs = [] } in
       let cs : List Case = casesIn file in
       let e = place-in i (omega arith) in
-      let t = take-suc cs i none (rw (cases-counted file) h) in
-      let c : caseAt file (placeOf file i) ≡ getD cs i none = case-placed file i h in
+      let t = take-suc cs i noCase (rw (cases-counted file) h) in
+      let c : caseAt file (placeOf file i) ≡ getD cs i noCase = case-positioned file i h in
       let s = case-size file (placeOf file i) (place-fits file ok i h) in
-      let m = rest-more (take i cs) (getD cs i none) in
+      let m = rest-more (take i cs) (getD cs i noCase) in
       let a = record-size (take i cs) in
-      let b = record-size (take i cs ++ (getD cs i none ∷ [])) in
+      let b = record-size (take i cs ++ (getD cs i noCase ∷ [])) in
       rw (t, b, m, ← c, s) (omega (arith, e, a))

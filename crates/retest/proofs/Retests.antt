@@ -17,7 +17,7 @@ use Rattle.shapes.specs.Keep.{some}
 use Rattle.shapes.specs.Refusals.{when, Ruling, ruling, fine, refused, AllFalse, RefusedBy}
 use Rattle.shapes.proofs.Tests.{and-true, or-false}
 use Rattle.shapes.proofs.Refusals.{refused-when, fine-when, ruling-here, ruling-past, ruling-end, ruling-join-refused, ruling-join-fine, ruling-joined}
-use Rattle.machine.specs.Case.{Case}
+use Rattle.machine.specs.Case.{Case, noCase}
 use Rattle.house.specs.Refusal.{numberOf}
 use Rattle.house.specs.File.{restAt}
 use Rattle.house.specs.Cases.{caseBytes, caseEnd, caseFits, caseAt, casesFrom, casesIn, countIn, countOf, recordRules}
@@ -28,7 +28,7 @@ use Rattle.house.specs.declared.refusal.Refusal.the-variants.{Slot}
 use Rattle.house.proofs.Records.{cases-counted}
 use Rattle.house.proofs.Places.{place-next, place-fits, place-ends, place-inside, place-past}
 use Rattle.house.proofs.Against.{next-case}
-use Rattle.retest.proofs.Positions.{case-stands, case-placed, place-in}
+use Rattle.retest.proofs.Positions.{case-stands, case-positioned, place-in}
 
 -- lists of other lengths are not the same
 same-other : (xs ys : List ℕ) → (length xs ≡ length ys → ⊥) → same xs ys ≡ false
@@ -192,13 +192,10 @@ module _ (c : Case) where
   match-some [] h = absurd (omega arith)
   match-some (d ∷ ds) h = go (sameInputs c d) (match-some ds) h
     where
-      none : Case
-      none = record { inputs = []; outputs = [] }
-
       go : (t : Bool)
-          → (matchOf c ds < length ds → (some (sameInputs c) ds ≡ true) × (retestOf c ds ≡ getD ds (matchOf c ds) none))
+          → (matchOf c ds < length ds → (some (sameInputs c) ds ≡ true) × (retestOf c ds ≡ getD ds (matchOf c ds) noCase))
           → cond t 0 (suc (matchOf c ds)) < suc (length ds)
-          → ((t || some (sameInputs c) ds) ≡ true) × (cond t d (retestOf c ds) ≡ getD (d ∷ ds) (cond t 0 (suc (matchOf c ds))) none)
+          → ((t || some (sameInputs c) ds) ≡ true) × (cond t d (retestOf c ds) ≡ getD (d ∷ ds) (cond t 0 (suc (matchOf c ds))) noCase)
       go true rest h = (refl, refl)
       go false rest h = rest (omega arith)
 
@@ -250,8 +247,8 @@ module _ (a b : List ℕ) (position : ℕ) where
     rules-last = ruling-join-fine (recordRules a ++ recordRules b) _ (ruling-join-fine (recordRules a) _ e ∙ f)
 
     -- on a position with no case
-    pub rules-slot : {n : ℕ} → n ≡ countOf (countIn a) → n ≤ position → ruling (retestRules a b position) ≡ refused Slot
-    rules-slot c h = rules-last ∙ ruling-here Slot [] (le-leb (countOf (countIn a)) position (rw (← c) h))
+    pub rules-position : {n : ℕ} → n ≡ countOf (countIn a) → n ≤ position → ruling (retestRules a b position) ≡ refused Slot
+    rules-position c h = rules-last ∙ ruling-here Slot [] (le-leb (countOf (countIn a)) position (rw (← c) h))
 
     -- or on one with a case
     pub rules-fine : {n : ℕ} → n ≡ countOf (countIn a) → position < n → ruling (retestRules a b position) ≡ fine
@@ -279,7 +276,7 @@ module _ (a b : List ℕ) (position : ℕ) where
   module _ (ok : ruling (retestRules a b position) ≡ fine) where
     -- it is the one that stands at its place
     own-case : (p : ℕ) → p ≡ placeOf a position → caseAt a p ≡ own
-    own-case p d = ap (caseAt a) d ∙ case-placed a position (rules-known ok .2)
+    own-case p d = ap (caseAt a) d ∙ case-positioned a position (rules-known ok .2)
 
     -- the place looked for is that of the first retest case with its inputs
     match-own : (p q : ℕ) → p ≡ placeOf a position → q ≡ placeOf b (matchOf (caseAt a p) (casesIn b)) → q ≡ placeOf b (matchOf own (casesIn b))
@@ -302,7 +299,7 @@ module _ (a b : List ℕ) (position : ℕ) where
         let g = match-own p q d e in
         let l = match-inside own q g h in
         let m = match-some own (casesIn b) (rw (cases-counted b) l) in
-        let r : retestOf own (casesIn b) ≡ caseAt b q = m .1 ∙ sym (case-placed b _ l) ∙ ap (caseAt b) (sym g) in
+        let r : retestOf own (casesIn b) ≡ caseAt b q = m .1 ∙ sym (case-positioned b _ l) ∙ ap (caseAt b) (sym g) in
         let i : q ≡ placeIn (casesIn b) (matchOf own (casesIn b)) = g ∙ place-in b (rules-known ok .1) _ (omega arith) in
         (rw (ok, r) (part-case b q x (rw g (place-fits b (rules-known ok .1) _ l)) f), rw (ok, m .0, ← i) refl)
 

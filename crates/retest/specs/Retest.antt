@@ -7,7 +7,7 @@ use lib.Dec.{eqb, leb}
 use lib.ListN.{length, getD, take}
 use Rattle.shapes.specs.Keep.{some}
 use Rattle.shapes.specs.Refusals.{Rule, when, Ruling, fine, refused, ruling}
-use Rattle.machine.specs.Case.{Case}
+use Rattle.machine.specs.Case.{Case, noCase}
 use Rattle.house.specs.Refusal.{numberOf}
 use Rattle.house.specs.Cases.{caseBytes, recordFile, countIn, countOf, recordRules, casesIn}
 use Rattle.house.specs.declared.refusal.Refusal.{Refusal}
@@ -31,7 +31,7 @@ retestOf c (d ∷ ds) = cond (sameInputs c d) d (retestOf c ds)
 
 -- the case at a position; one of no steps where there is none
 unfoldable pub atPosition : List Case → ℕ → Case
-atPosition cs position = getD cs position (record { inputs = []; outputs = [] })
+atPosition cs position = getD cs position noCase
 
 -- "the first record's refusal, the retest's, then SLOT for a position with no case"
 unfoldable pub retestRules : List ℕ → List ℕ → ℕ → List (Rule Refusal)

@@ -6,7 +6,7 @@ use house::refusal::Checked;
 use house::refusal::Refusal;
 use shapes::byte;
 ghost use mathlib.Core.Path.{_≡_};
-ghost use Prim.Native.Nat.{_+_, _*_, _≤_, _<_};
+ghost use Prim.Native.Nat.{_≤_, _<_};
 ghost use lib.ListN.{length};
 ghost use denote.Ref.{ptr};
 ghost use Rattle.shapes.specs.Refusals.{ruling, fine};
@@ -59,7 +59,8 @@ fn check_retest(first: &[u8], retest: &[u8], position: usize) -> Checked
 fn place(file: &[u8], position: usize) -> usize
     requires { ⌜ ruling (recordRules (now file)) ≡ fine ⌝ }
     requires { ⌜ position < countOf (countIn (now file)) ⌝ }
-    ensures { λ r. ⌜ (r ≡ placeOf (now (file .entry)) position) × (caseEnd (now (file .entry)) r ≤ length (now (file .entry))) ⌝ }
+    ensures { λ r. ⌜ r ≡ placeOf (now (file .entry)) position ⌝ }
+    ensures { λ r. ⌜ caseEnd (now (file .entry)) r ≤ length (now (file .entry)) ⌝ }
 {
     let mut at = REST;
     let mut i = 0;

@@ -17,7 +17,7 @@ use Rattle.shapes.proofs.Tests.{and-true}
 use Rattle.machine.specs.Limits.{stepsMost}
 use Rattle.machine.specs.Head.{numbers}
 use Rattle.machine.specs.Cell.{TableIn}
-use Rattle.machine.specs.Case.{Case, goodCase, CaseIn, allGood}
+use Rattle.machine.specs.Case.{Case, goodCase, CaseIn, allGood, noCase}
 use Rattle.machine.specs.declared.head.Head.{Head}
 use Rattle.machine.proofs.Cases.{case-in}
 use Rattle.house.specs.File.{restAt}
@@ -33,7 +33,7 @@ use Rattle.house.specs.declared.cases.RecordFile as RecordFile-type
 use Rattle.house.proofs.Records.{cases-counted}
 use Rattle.house.proofs.Places.{place-next}
 use Rattle.house.proofs.Against.{case-fine, cases-fine}
-use Rattle.memory.specs.Layout.{placesMost, sessionSize, talliesSize, headOf, cellsOf, caseOf, cases, freePlace, noCase}
+use Rattle.memory.specs.Layout.{placesMost, sessionSize, talliesSize, headOf, cellsOf, caseOf, cases, freePlace}
 use Rattle.memory.specs.Form.{tallyMost, Formed, formRules, isSlot, slotRules}
 use Rattle.session.specs.Calls.{Offer, after, outcomeOr, addRules, addCall, withdrawRules, withdrawCall, amendRules, amendCall, roomForRules, loadRules, loadCall, loadedSession, loadedTallies}
 use Rattle.session.specs.Tallies.{canTake, raised, lowered}

@@ -19,7 +19,7 @@ use Rattle.shapes.proofs.Edit.{edit-in, length-edit}
 use Rattle.shapes.proofs.Refusals.{fine-when}
 use Rattle.shapes.proofs.Tests.{and-true}
 use Rattle.machine.specs.Head.{numbers}
-use Rattle.machine.specs.Case.{Case, goodCase, allGood}
+use Rattle.machine.specs.Case.{Case, goodCase, allGood, noCase}
 use Rattle.machine.specs.declared.head.Head.{Head}
 use Rattle.house.specs.File.{restAt}
 use Rattle.house.specs.Table.{headIn, cellsIn, tableRules, tableOr, tableRead}
@@ -29,7 +29,7 @@ use Rattle.house.specs.declared.table.TableFile.the-variants.{Table}
 use Rattle.house.proofs.Tables.{table-taken}
 use Rattle.house.proofs.Against.{case-fine, cases-fine}
 use Rattle.diagnosis.specs.Diagnosis.{tally}
-use Rattle.memory.specs.Layout.{placesMost, sessionCellsAt, cellsRoom, sessionSize, talliesSize, headOf, cellsOf, isHeld, caseOf, caseIf, heldTo, cases, freePlace, noCase}
+use Rattle.memory.specs.Layout.{placesMost, sessionCellsAt, cellsRoom, sessionSize, talliesSize, headOf, cellsOf, isHeld, caseOf, caseIf, heldTo, cases, freePlace}
 use Rattle.memory.specs.Form.{Formed, roomRules, formRules, isSlot, slotRules}
 use Rattle.session.specs.Tallies.{TrueTallies, canTake, raised, lowered}
 use Rattle.session.specs.Calls.{Offer, outcomeOr, startRules, startCall, addRules, addCall, withdrawRules, withdrawCall, amendRules, amendCall, loadedSession, loadedTallies, roomForRules, loadRules, loadCall}

@@ -10,16 +10,16 @@ use Rattle.shapes.specs.Keep.{bit, every}
 use Rattle.shapes.specs.Edit.{edit}
 use Rattle.shapes.proofs.Tests.{and-true}
 use Rattle.machine.specs.Head.{numbers}
-use Rattle.machine.specs.Case.{Case, goodCase, allGood}
+use Rattle.machine.specs.Case.{Case, goodCase, allGood, noCase}
 use Rattle.machine.specs.declared.head.Head.{Head}
 use Rattle.diagnosis.specs.Diagnosis.{misses}
-use Rattle.memory.specs.Layout.{placesMost, headOf, cellsOf, caseOf, cases, freePlace, noCase}
+use Rattle.memory.specs.Layout.{placesMost, headOf, cellsOf, caseOf, cases, freePlace}
 use Rattle.memory.specs.Form.{Formed, isSlot}
 use Rattle.session.specs.Tallies.{miss, canTake, raised, lowered}
 use Rattle.memory.specs.Store.{placed}
 use Rattle.session.specs.Calls.{loadedSession, loadedTallies}
 use Rattle.memory.proofs.Stored.{Fits, no-fits, head-placed, cells-placed, place-stored, place-cleared}
-use Rattle.session.proofs.Tallied.{raised-in, raised-out, length-raised, lowered-in, lowered-out, length-lowered, miss-few, can-take-at}
+use Rattle.session.proofs.Tallied.{raised-out, length-raised, raised-few, lowered-in, lowered-out, length-lowered, can-take-at}
 use Rattle.memory.proofs.Held.{good-fits, slot-inside, add-count, withdraw-count, amend-count, place-keeps, free-left}
 
 -- an add keeps the form,
@@ -27,7 +27,7 @@ pub add-keeps : (s t : List ℕ) (c : Case) → Formed s t → goodCase (headOf 
     → Formed (placed s (freePlace s) c) (raised s c t)
 add-keeps s t c k g l =
     place-keeps s t k (freePlace s) l c fits (place-stored s (k .session-room) (freePlace s) l c fits g) (raised s c t) (length-raised s c t)
-    (λ f m n o. rw (raised-in s c t f m n, add-count s t c k g l) (omega (arith, miss-few s c f))) (raised-out s c t)
+    (λ f m n o. rw (add-count s t c k g l) (omega (arith, raised-few s c t f .1))) (raised-out s c t)
   where
     fits : Fits c
     fits = good-fits (headOf s) c g
@@ -63,8 +63,8 @@ amend-keeps s t p c k slot can g =
 
     used : (f : ℕ) → f < numbers (headOf s) → f < length t → getD t f 0 ≤ length (cases s) → getD (raised s c less) f 0 ≤ length (cases (placed s p c))
     used f m n o =
-        rw (raised-in s c less f m (rw (length-lowered s (caseOf s p) t) n), lowered-in s (caseOf s p) t f m n, amend-count s t p c k slot g)
-        (omega (arith, can-take-at s t p f can m .1, withdraw-count s t p k slot, miss-few s c f))
+        rw (amend-count s t p c k slot g)
+        (omega (arith, raised-few s c less f .1, lowered-in s (caseOf s p) t f m n, can-take-at s t p f can m .1, withdraw-count s t p k slot))
 
 -- a case counts alike with every session of the same table
 raised-same : (s s′ : List ℕ) (c : Case) (t : List ℕ) → headOf s′ ≡ headOf s → cellsOf s′ ≡ cellsOf s → raised s′ c t ≡ raised s c t

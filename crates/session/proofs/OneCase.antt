@@ -1,26 +1,17 @@
 -- Changing one case moves no tally by more than one: every call is edits of each tally by at most one. Assumes nothing.
 use Prim.Native.Nat.{ℕ, _+_, _-_, _≤_}
-use mathlib.Core.Path.{_≡_, refl, sym, _∙_}
 use mathlib.Core.List.{List}
-use mathlib.Core.Bool.{Bool, true, false}
-use mathlib.Core.Logic.{_⊎_, inl, inr}
-use native.Mathlib.Nat.{zero-add}
 use native.Mathlib.Omega.{arith}
-use lib.Dec.{ltb}
-use lib.ListN.{length, getD, List·getD-eq-default}
-use borrow.Author.Tests.{ltb-true, ltb-false}
-use Rattle.shapes.specs.Edit.{edit}
+use lib.ListN.{getD}
 use Rattle.shapes.specs.Refusals.{Ruling, fine, refused, ruling}
-use Rattle.shapes.proofs.Edit.{edit-in, edit-out-above, length-edit}
-use Rattle.machine.specs.Head.{numbers}
-use Rattle.machine.specs.Case.{Case}
+use Rattle.machine.specs.Case.{Case, noCase}
 use Rattle.house.specs.declared.refusal.Refusal.{Refusal}
-use Rattle.memory.specs.Layout.{headOf, caseOf, freePlace, noCase}
-use Rattle.session.specs.Tallies.{miss, raised, lowered}
+use Rattle.memory.specs.Layout.{caseOf, freePlace}
+use Rattle.session.specs.Tallies.{raised, lowered}
 use Rattle.session.specs.Calls.{outcomeOr, addRules, addCall, withdrawRules, withdrawCall, amendRules, amendCall}
 use Rattle.memory.specs.Store.{placed}
 use Rattle.session.specs.History.{Call, start, add, amend, withdraw, load, Memory, memory, left, called, Model, Shows}
-use Rattle.session.proofs.Tallied.{miss-few}
+use Rattle.session.proofs.Tallied.{raised-few, lowered-few}
 
 -- a call that changes one case
 abbrev pub OneCase : Call → Type 0
@@ -37,42 +28,6 @@ tallyIn (memory s t) f = getD t f 0
 -- two numbers at most one apart
 abbrev pub WithinOne : ℕ → ℕ → Type 0
 WithinOne a b = (a ≤ b + 1) × (b ≤ a + 1)
-
--- a number of a list that is changed from its start on stays, or has its change
-edit-either : (g : ℕ → ℕ → ℕ) (n : ℕ) (l : List ℕ) (f : ℕ)
-    → (getD (edit g 0 n l) f 0 ≡ getD l f 0) ⊎ (getD (edit g 0 n l) f 0 ≡ g f (getD l f 0))
-edit-either g n l f = go (ltb f n) refl (ltb f (length l)) refl
-  where
-    go : (a : Bool) → ltb f n ≡ a → (b : Bool) → ltb f (length l) ≡ b
-        → (getD (edit g 0 n l) f 0 ≡ getD l f 0) ⊎ (getD (edit g 0 n l) f 0 ≡ g f (getD l f 0))
-    go true ea true eb =
-        let there = ltb-true f (length l) eb in
-        inr (rw zero-add at (edit-in g 0 n l f (ltb-true f n ea) (omega arith)))
-    go true ea false eb =
-        let past = ltb-false f (length l) eb in
-        let same = length-edit g 0 n l in
-        inl (List·getD-eq-default (edit g 0 n l) 0 {n = f} (omega arith) ∙ sym (List·getD-eq-default l 0 past))
-    go false ea b eb = let past = ltb-false f n ea in inl (edit-out-above g 0 n l f (omega arith))
-
--- a case counted in adds to each tally at most one,
-raised-few : (s : List ℕ) (c : Case) (t : List ℕ) (f : ℕ) → (getD t f 0 ≤ getD (raised s c t) f 0) × (getD (raised s c t) f 0 ≤ getD t f 0 + 1)
-unfolding raised
-raised-few s c t f = go (edit-either (λ f old. old + miss s c f) (numbers (headOf s)) t f) (miss-few s c f)
-  where
-    go : (getD (raised s c t) f 0 ≡ getD t f 0) ⊎ (getD (raised s c t) f 0 ≡ getD t f 0 + miss s c f) → miss s c f ≤ 1
-        → (getD t f 0 ≤ getD (raised s c t) f 0) × (getD (raised s c t) f 0 ≤ getD t f 0 + 1)
-    go (inl e) few = (omega arith, omega arith)
-    go (inr e) few = (omega arith, omega arith)
-
--- and one counted out takes at most one away
-lowered-few : (s : List ℕ) (c : Case) (t : List ℕ) (f : ℕ) → (getD t f 0 ≤ getD (lowered s c t) f 0 + 1) × (getD (lowered s c t) f 0 ≤ getD t f 0)
-unfolding lowered
-lowered-few s c t f = go (edit-either (λ f old. old - miss s c f) (numbers (headOf s)) t f) (miss-few s c f)
-  where
-    go : (getD (lowered s c t) f 0 ≡ getD t f 0) ⊎ (getD (lowered s c t) f 0 ≡ getD t f 0 - miss s c f) → miss s c f ≤ 1
-        → (getD t f 0 ≤ getD (lowered s c t) f 0 + 1) × (getD (lowered s c t) f 0 ≤ getD t f 0)
-    go (inl e) few = (omega arith, omega arith)
-    go (inr e) few = (omega arith, omega arith)
 
 -- a call that is refused moves no tally
 outcome-within : (v : Ruling Refusal) (n : ℕ) (s t s′ t′ : List ℕ) (f : ℕ) → WithinOne (getD t f 0) (getD t′ f 0)

@@ -9,12 +9,12 @@ use lib.ListN.{getD}
 use Rattle.shapes.specs.Edit.{KeptFrom}
 use Rattle.shapes.specs.Refusals.{Ruling, fine, refused, ruling}
 use Rattle.shapes.proofs.Edit.{kept-all, kept-then, edit-keeps}
-use Rattle.machine.specs.Case.{Case}
+use Rattle.machine.specs.Case.{Case, noCase}
 use Rattle.house.specs.File.{restAt}
 use Rattle.house.specs.Refusal.{checked}
 use Rattle.house.specs.Cases.{countIn, countOf, recordOr, casesIn}
 use Rattle.house.specs.declared.refusal.Refusal.{Refusal}
-use Rattle.memory.specs.Layout.{placesMost, placeSize, sessionSize, talliesSize, caseOf, freePlace, placeAt, placeByte, noCase}
+use Rattle.memory.specs.Layout.{placesMost, placeSize, sessionSize, talliesSize, caseOf, freePlace, placeAt, placeByte}
 use Rattle.memory.specs.Form.{Formed}
 use Rattle.session.specs.Calls.{outcomeOr, startRules, startCall, addRules, addCall, withdrawRules, withdrawCall, amendRules, amendCall, loadRules, loadCall}
 use Rattle.session.specs.Tallies.{raised, lowered}

@@ -13,13 +13,13 @@ use Rattle.shapes.specs.Keep.{count}
 use Rattle.shapes.proofs.First.{all-from}
 use Rattle.shapes.proofs.Keep.{count-most}
 use Rattle.machine.specs.Head.{numbers}
-use Rattle.machine.specs.Case.{Case, goodCase}
+use Rattle.machine.specs.Case.{Case, goodCase, noCase}
 use Rattle.machine.specs.declared.head.Head.{Head}
 use Rattle.house.specs.Table.{tableRead}
 use Rattle.house.specs.declared.table.TableFile.the-variants.{Table}
 use Rattle.house.proofs.Tables.{table-known}
 use Rattle.diagnosis.specs.Diagnosis.{misses, tally}
-use Rattle.memory.specs.Layout.{placesMost, sessionSize, talliesSize, headOf, cellsOf, caseOf, cases, freePlace, noCase}
+use Rattle.memory.specs.Layout.{placesMost, sessionSize, talliesSize, headOf, cellsOf, caseOf, cases, freePlace}
 use Rattle.memory.specs.Form.{Formed, isSlot}
 use Rattle.session.specs.Tallies.{TrueTallies, miss, canTake, raised, lowered}
 use Rattle.memory.specs.Store.{placed, started, cleared}

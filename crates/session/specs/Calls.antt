@@ -6,13 +6,13 @@ use mathlib.Core.Bool.{not}
 use lib.Dec.{ltb, leb}
 use lib.ListN.{length}
 use Rattle.shapes.specs.Refusals.{Rule, when, Ruling, fine, refused, ruling}
-use Rattle.machine.specs.Case.{Case, asCase}
+use Rattle.machine.specs.Case.{Case, asCase, noCase}
 use Rattle.house.specs.Table.{tableRules}
 use Rattle.house.specs.Cases.{recordRules, casesIn, alone, caseRules, casesRules}
 use Rattle.house.specs.declared.refusal.Refusal.{Refusal}
 use Rattle.house.specs.declared.refusal.Refusal.the-variants.{Full, Damaged}
 use Rattle.house.specs.declared.refusal.Answer as Answer-type
-use Rattle.memory.specs.Layout.{placesMost, headOf, caseOf, cases, freePlace, noCase}
+use Rattle.memory.specs.Layout.{placesMost, headOf, caseOf, cases, freePlace}
 use Rattle.memory.specs.Form.{roomRules, formRules, slotRules}
 use Rattle.session.specs.Tallies.{canTake, raised, lowered}
 use Rattle.memory.specs.Store.{placed, started, cleared}

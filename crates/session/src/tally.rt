@@ -45,7 +45,8 @@ fn missed(
     requires { ⌜ number < numbers head ⌝ }
     requires { ⌜ CaseIn head (now inputs) (now outputs) ⌝ }
     requires { ⌜ Walked (specified head (now cells)) (asCase (now inputs) (now outputs)) failing (now marks) ⌝ }
-    ensures { λ r. ⌜ (r ≡ bit (misses head (now (cells .entry)) number (asCase (now (inputs .entry)) (now (outputs .entry))))) × (r ≤ 1) ⌝ }
+    ensures { λ r. ⌜ r ≡ bit (misses head (now (cells .entry)) number (asCase (now (inputs .entry)) (now (outputs .entry)))) ⌝ }
+    ensures { λ r. ⌜ r ≤ 1 ⌝ }
 {
     is_missed_walked(head, cells, number, inputs, outputs, failing, marks) as u16
 }

@@ -7,11 +7,11 @@ use mathlib.Core.Bool.{Bool, true, false}
 use mathlib.Core.Logic.{_⊎_, inl, inr, _≢_}
 use mathlib.Core.List.{List, [], _∷_, _++_}
 use native.Mathlib.Numerals.{add-one, add-two, add-three}
-use native.Mathlib.Nat.{eq-or-lt-of-le, add-zero, add-suc, add-assoc}
+use native.Mathlib.Nat.{eq-or-lt-of-le, zero-add, add-zero, add-suc, add-assoc}
 use native.Mathlib.Omega.{arith}
 use lib.Dec.{ltb}
 use borrow.Author.Tests.{ltb-true, ltb-false}
-use lib.ListN.{length, getD, set, drop, length-set, length-append, List·getD-append}
+use lib.ListN.{length, getD, set, drop, length-set, length-append, List·getD-append, List·getD-eq-default}
 use lib.Seq.{set-getD, getD-set-same, getD-set-other, getD-append-add, ext-getD, drop-cons}
 use Rattle.shapes.specs.Edit.{edit, KeptFrom, filled}
 
@@ -85,6 +85,22 @@ module _ (f : ℕ → ℕ → ℕ) (at : ℕ) where
   edit-compose m (suc n) l =
       let e = edit-compose m n l in
       let d = edit-out-above m l (at + m + n) (omega arith) in rw (add-suc, e, d, add-assoc)
+
+-- a number of a list that is changed from its start on stays, or has its change
+pub edit-either : (g : ℕ → ℕ → ℕ) (n : ℕ) (l : List ℕ) (f : ℕ)
+    → (getD (edit g 0 n l) f 0 ≡ getD l f 0) ⊎ (getD (edit g 0 n l) f 0 ≡ g f (getD l f 0))
+edit-either g n l f = go (ltb f n) refl (ltb f (length l)) refl
+  where
+    go : (a : Bool) → ltb f n ≡ a → (b : Bool) → ltb f (length l) ≡ b
+        → (getD (edit g 0 n l) f 0 ≡ getD l f 0) ⊎ (getD (edit g 0 n l) f 0 ≡ g f (getD l f 0))
+    go true ea true eb =
+        let there = ltb-true f (length l) eb in
+        inr (rw zero-add at (edit-in g 0 n l f (ltb-true f n ea) (omega arith)))
+    go true ea false eb =
+        let past = ltb-false f (length l) eb in
+        let same = length-edit g 0 n l in
+        inl (List·getD-eq-default (edit g 0 n l) 0 {n = f} (omega arith) ∙ sym (List·getD-eq-default l 0 past))
+    go false ea b eb = let past = ltb-false f n ea in inl (edit-out-above g 0 n l f (omega arith))
 
 -- a change of nothing leaves the list
 pub edit-kept : (at n : ℕ) (l : List ℕ) → edit (λ i old. old) at n l ≡ l

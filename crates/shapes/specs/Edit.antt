@@ -18,3 +18,7 @@ pub record KeptFrom (n : ℕ) (old new : List ℕ) : Type 0 where
 unfoldable pub filled : List ℕ → ℕ → List ℕ → List ℕ
 unfolding edit
 filled l at v = edit (λ i old. getD v i 0) at (length v) l
+
+-- the place after them
+abbrev pub placeAfter : ℕ → List ℕ → ℕ
+placeAfter at v = at + length v

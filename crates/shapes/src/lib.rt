@@ -9,7 +9,8 @@ ghost use Rattle.shapes.specs.Edit.{filled};
 // The byte at a place, as a number.
 pub fn byte(s: &[u8], at: usize) -> usize
     requires { ⌜ at < length (now s) ⌝ }
-    ensures { λ r. ⌜ (r ≡ getD (now (s .entry)) at 0) × (r < 256) ⌝ }
+    ensures { λ r. ⌜ r ≡ getD (now (s .entry)) at 0 ⌝ }
+    ensures { λ r. ⌜ r < 256 ⌝ }
 {
     s[at] as usize
 }

@@ -4,6 +4,7 @@ use Prim.Native.Nat.{_-_, _≤_}
 use mathlib.Core.Path.{_≡_}
 use lib.ListN.{length}
 use borrow.Author.Needs.{needs}
+use Rattle.house.specs.Cases.{caseBytes}
 use Rattle.file_bounds.proofs.put_cases.Statement.{statement}
 use Rattle.file_bounds.proofs.put_cases.Tie as tie
 
@@ -35,9 +36,11 @@ put-case-requires : tie.Need-put-case-requires Inv-loop μ-loop
 put-case-requires c κs = search needs
 
 loop-less : tie.Need-loop-less Inv-loop μ-loop
+unfolding caseBytes
 loop-less c = search needs
 
 loop-again : tie.Need-loop-again Inv-loop μ-loop
+unfolding caseBytes
 loop-again c = search needs
 
 same-length : tie.Need-same-length Inv-loop μ-loop

@@ -3,7 +3,7 @@
 use borrow.Author.Needs.{needs}
 use mathlib.Core.Path.{sym, _∙_}
 use Rattle.house.proofs.Records.{rules-refuse, rules-pass}
-use Rattle.retest.proofs.Retests.{rules-first, rules-second, rules-slot, rules-fine}
+use Rattle.retest.proofs.Retests.{rules-first, rules-second, rules-position, rules-fine}
 use Rattle.retest.proofs.check_retest.Statement.{statement}
 use Rattle.retest.proofs.check_retest.Tie as tie
 
@@ -29,7 +29,7 @@ enum-told : tie.Need-enum-told
 enum-told c = search needs
 
 returns-2 : tie.Need-returns-2
-returns-2 c = let f = rules-pass _ (sym (c .before .before .before .before .before .before .before .read-record .ensures) ∙ c .before .before .before .before .before .read2 .given .1) in let g = rules-pass _ (sym (c .before .before .before .read-record2 .ensures) ∙ c .before .enum-told .given .1) in rw (rules-slot _ _ _ (f .0) (g .0) (f .1) (c .if1 .taken))
+returns-2 c = let f = rules-pass _ (sym (c .before .before .before .before .before .before .before .read-record .ensures) ∙ c .before .before .before .before .before .read2 .given .1) in let g = rules-pass _ (sym (c .before .before .before .read-record2 .ensures) ∙ c .before .enum-told .given .1) in rw (rules-position _ _ _ (f .0) (g .0) (f .1) (c .if1 .taken))
 
 returns-3 : tie.Need-returns-3
 returns-3 c = rw (rules-first _ _ _ (rules-refuse _ (sym (c .before .before .before .read-record .ensures) ∙ c .before .read .given .1)))

@@ -1,11 +1,11 @@
 -- `house::cases::put_case` meets its contract: the length byte, the inputs and the outputs, one right after the other, are the case's bytes.
 -- Assumes nothing.
 use borrow.Author.Needs.{needs}
-use mathlib.Core.Path.{refl, ap, _∙_}
+use mathlib.Core.Path.{ap, _∙_}
 use native.Mathlib.Omega.{arith}
 use lib.ListN.{length, length-set}
 use Rattle.shapes.proofs.Edit.{length-filled, length-stored}
-use Rattle.house.proofs.Records.{case-written}
+use Rattle.house.proofs.Records.{case-after, case-written}
 use Rattle.house.proofs.cases.put_case.Statement.{statement}
 use Rattle.house.proofs.cases.put_case.Tie as tie
 
@@ -43,7 +43,7 @@ same-length : tie.Need-same-length
 same-length c = ap length (c .before .before .put2 .ensures) ∙ length-filled _ _ _ ∙ length-stored (c .before .before .before .before .before .before .before .before .before .before .before .args .out .now) _ (c .before .before .before .before .before .before .before .before .before .before .before .args .at) (length (c .before .before .before .before .before .before .before .before .before .before .before .args .inputs .now)) _ _ (c .before .before .before .before .before .before .put .ensures)
 
 returns : tie.Need-returns
-returns c = (refl, case-written _ _ _ _ _ (c .before .before .before .before .before .before .put .ensures) (c .before .before .put2 .ensures))
+returns c = (case-after _ _ (c .before .before .before .before .before .before .before .before .before .before .before .pre .0 .1), case-written _ _ _ _ _ (c .before .before .before .before .before .before .put .ensures) (c .before .before .put2 .ensures))
 
 pub put-case-spec : {M : Type 1} → statement M
 put-case-spec =

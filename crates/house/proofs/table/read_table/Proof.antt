@@ -3,7 +3,7 @@
 use borrow.Author.Needs.{needs}
 use mathlib.Core.Path.{sym, _∙_}
 use Rattle.house.proofs.Forms.{checked-fine, checked-refused}
-use Rattle.house.proofs.Tables.{read-refused}
+use Rattle.house.proofs.Tables.{table-file-refused}
 use Rattle.house.proofs.table.read_table.Statement.{statement}
 use Rattle.house.proofs.table.read_table.Tie as tie
 
@@ -14,7 +14,7 @@ enum-known-found : tie.Need-enum-known-found
 enum-known-found c = search needs
 
 returns : tie.Need-returns
-returns c = sym (read-refused _ (checked-refused _ (sym (c .before .before .before .check-file .ensures) ∙ c .before .found .given .1)))
+returns c = sym (table-file-refused _ (checked-refused _ (sym (c .before .before .before .check-file .ensures) ∙ c .before .found .given .1)))
 
 enum-told : tie.Need-enum-told
 enum-told c = search needs

@@ -2,7 +2,7 @@
 -- Assumes nothing.
 use borrow.Author.Needs.{needs}
 use mathlib.Core.Path.{sym, _∙_}
-use Rattle.memory.proofs.Checks.{head-made, table-no-head, headed-in, cells-room, table-bad-cell, table-rest}
+use Rattle.memory.proofs.Checks.{head-made, table-no-head, headed-in, session-cells-room, table-bad-cell, table-rest}
 use Rattle.memory.proofs.form.is_table.Statement.{statement}
 use Rattle.memory.proofs.form.is_table.Tie as tie
 
@@ -34,7 +34,7 @@ part-first-bad-end : tie.Need-part-first-bad-end
 part-first-bad-end c = search needs
 
 first-bad-requires : tie.Need-first-bad-requires
-first-bad-requires c κs = (headed-in (c .before .before .before .before .before .before .before .before .args .session .now) (head-made (c .before .before .before .before .before .before .before .before .args .session .now) (c .before .before .before .before .before .before .head-of .ensures) (c .before .before .before .before .before .new .ensures .0) (c .before .before .before .made .given .1)), rw (← c .before .cells .ensures .0) (cells-room (c .before .before .before .before .before .before .before .before .args .session .now) (c .before .before .before .before .before .before .before .before .pre) (c .before .cells .ensures .1)))
+first-bad-requires c κs = (headed-in (c .before .before .before .before .before .before .before .before .args .session .now) (head-made (c .before .before .before .before .before .before .before .before .args .session .now) (c .before .before .before .before .before .before .head-of .ensures) (c .before .before .before .before .before .new .ensures .0) (c .before .before .before .made .given .1)), rw (← c .before .cells .ensures .0) (session-cells-room (c .before .before .before .before .before .before .before .before .args .session .now) (c .before .before .before .before .before .before .before .before .pre) (c .before .cells .ensures .1)))
 
 returns-2 : tie.Need-returns-2
 returns-2 c = sym (table-bad-cell _ (head-made (c .before .before .before .before .before .before .before .before .before .before .args .session .now) (c .before .before .before .before .before .before .before .before .head-of .ensures) (c .before .before .before .before .before .before .before .new .ensures .0) (c .before .before .before .before .before .made .given .1)) (c .before .first-bad .ensures) (c .before .before .before .cells .ensures .0) (c .if1 .taken))

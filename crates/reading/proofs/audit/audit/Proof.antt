@@ -4,7 +4,7 @@ use mathlib.Core.Path.{sym, _∙_}
 use borrow.Author.Needs.{needs}
 use Rattle.memory.proofs.Formed.{formed-table}
 use Rattle.session.proofs.Tallying.{count-told}
-use Rattle.memory.proofs.Known.{told-fine, rules-formed, table-known}
+use Rattle.memory.proofs.Known.{told-fine, rules-formed, session-table}
 use Rattle.reading.proofs.Listed.{audit-refused, audit-false, audit-true}
 use Rattle.reading.proofs.audit.audit.Statement.{statement}
 use Rattle.reading.proofs.audit.audit.Tie as tie
@@ -28,7 +28,7 @@ head-of-requires : tie.Need-head-of-requires
 head-of-requires c κs = rules-formed (c .before .before .before .before .before .before .args .session .now) (c .before .before .before .before .before .before .args .tallies .now) (told-fine _ (c .before .before .before .check-form .ensures) (c .before .enum-told .given .1)) .session-room
 
 numbers-requires : tie.Need-numbers-requires
-numbers-requires c κs = let k = rules-formed (c .before .before .before .before .before .before .before .args .session .now) (c .before .before .before .before .before .before .before .args .tallies .now) (told-fine _ (c .before .before .before .before .check-form .ensures) (c .before .before .enum-told .given .1)) in table-known (c .before .before .before .before .before .before .before .args .session .now) (c .head-of .ensures) (k .session-room) (formed-table _ _ k) .head
+numbers-requires c κs = let k = rules-formed (c .before .before .before .before .before .before .before .args .session .now) (c .before .before .before .before .before .before .before .args .tallies .now) (told-fine _ (c .before .before .before .before .check-form .ensures) (c .before .before .enum-told .given .1)) in session-table (c .before .before .before .before .before .before .before .args .session .now) (c .head-of .ensures) (k .session-room) (formed-table _ _ k) .head
 
 returns-2 : tie.Need-returns-2
 returns-2 c = audit-false (c .before .before .before .before .before .before .before .before .before .args .session .now) (c .before .before .before .before .before .before .before .before .before .args .tallies .now) (sym (c .before .before .before .before .before .before .check-form .ensures) ∙ c .before .before .before .before .enum-told .given .1) (c .before .before .before .first-false .ensures) (count-told (c .before .before .before .before .before .before .before .before .before .args .session .now) _ (c .before .before .head-of .ensures) _ (c .before .numbers .ensures .0)) (c .if1 .taken)

@@ -8,7 +8,7 @@ use Rattle.shapes.specs.First.{first}
 use Rattle.shapes.proofs.First.{first-turn, first-found, first-ended}
 use Rattle.reading.specs.Reads.{falseTally}
 use Rattle.session.proofs.Tallying.{count-told}
-use Rattle.memory.proofs.Known.{table-known}
+use Rattle.memory.proofs.Known.{session-table}
 use Rattle.reading.proofs.Listed.{falseAt, false-begins, false-here, false-past}
 use Rattle.memory.proofs.Formed.{formed-table, formed-places}
 use Rattle.reading.proofs.audit.first_false.Statement.{statement}
@@ -24,7 +24,7 @@ head-of-requires : tie.Need-head-of-requires Inv-loop μ-loop
 head-of-requires c κs = search needs
 
 numbers-requires : tie.Need-numbers-requires Inv-loop μ-loop
-numbers-requires c κs = table-known (c .before .before .before .args .session .now) (c .head-of .ensures) (c .before .before .before .pre .session-room) (formed-table _ _ (c .before .before .before .pre)) .head
+numbers-requires c κs = session-table (c .before .before .before .args .session .now) (c .head-of .ensures) (c .before .before .before .pre .session-room) (formed-table _ _ (c .before .before .before .pre)) .head
 
 loop-holds : tie.Need-loop-holds Inv-loop μ-loop
 loop-holds c = (omega arith, false-begins (c .before .before .before .before .args .session .now) (c .before .before .before .before .args .tallies .now) (count-told (c .before .before .before .before .args .session .now) _ (c .before .head-of .ensures) _ (c .numbers .ensures .0)))

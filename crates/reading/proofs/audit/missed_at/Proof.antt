@@ -4,6 +4,7 @@ use mathlib.Core.Path.{refl}
 use borrow.Author.Needs.{needs}
 use native.Mathlib.Omega.{arith}
 use Rattle.shapes.specs.Keep.{count}
+use Rattle.diagnosis.specs.Diagnosis.{tally}
 use Rattle.memory.proofs.Known.{case-runs, held-read, free-read, place-within, parts-case}
 use Rattle.reading.proofs.Listed.{missed-told}
 use Rattle.reading.proofs.audit.missed_at.Statement.{statement}
@@ -13,7 +14,7 @@ of-requires : tie.Need-of-requires
 of-requires c κs = search needs
 
 returns : tie.Need-returns
-unfolding count
+unfolding tally count
 returns c = rw (free-read (c .before .before .before .args .session .now) (c .before .before .before .args .place) (c .before .of .ensures .0) (c .if1 .taken)) (refl, omega arith)
 
 add-inputs : tie.Need-add-inputs

@@ -1,4 +1,4 @@
--- `reading::audit::tally_afresh` meets its contract. The invariant: the count is that of the cases held below the place that the number's machine misses.
+-- `reading::audit::tally_afresh` meets its contract. The invariant: the count is the tally of the cases held below the place.
 -- Assumes nothing.
 use Prim.Native.Nat.{_-_, _≤_}
 use mathlib.Core.Path.{_≡_, refl}
@@ -6,20 +6,20 @@ use borrow.Author.Needs.{needs}
 use native.Mathlib.Omega.{arith}
 use Rattle.shapes.specs.Keep as keep-specs
 use Rattle.shapes.proofs.First.{all-at}
-use Rattle.diagnosis.specs.Diagnosis.{misses, tally}
+use Rattle.diagnosis.specs.Diagnosis.{tally}
 use Rattle.memory.specs.Layout.{placesMost, headOf, cellsOf, heldTo, cases}
-use Rattle.reading.proofs.Listed.{count-turn}
+use Rattle.reading.proofs.Listed.{tally-turn}
 use Rattle.reading.proofs.audit.tally_afresh.Statement.{statement}
 use Rattle.reading.proofs.audit.tally_afresh.Tie as tie
 
 abbrev Inv-loop : tie.InvT-loop
-Inv-loop session number count₀ place₀ count place = (place ≤ placesMost) × (count ≡ keep-specs.count (misses (headOf session) (cellsOf session) number) (heldTo session place)) × (count ≤ place)
+Inv-loop session number count₀ place₀ count place = (place ≤ placesMost) × (count ≡ tally (headOf session) (cellsOf session) (heldTo session place) number) × (count ≤ place)
 
 abbrev μ-loop : tie.MeasureT-loop
 μ-loop session number count₀ place₀ count place = placesMost - place
 
 loop-holds : tie.Need-loop-holds Inv-loop μ-loop
-unfolding heldTo keep-specs.count
+unfolding heldTo tally keep-specs.count
 loop-holds c = (omega arith, refl, omega arith)
 
 missed-at-requires : tie.Need-missed-at-requires Inv-loop μ-loop
@@ -35,10 +35,10 @@ loop-less : tie.Need-loop-less Inv-loop μ-loop
 loop-less c = search needs
 
 loop-again : tie.Need-loop-again Inv-loop μ-loop
-loop-again c = (omega arith, count-turn (c .before .before .before .before .args .session .now) _ (c .before .before .loop .place) (c .before .before .loop .count) (c .missed-at .result) (c .before .before .loop .inv .1) (c .missed-at .ensures .0), omega arith)
+loop-again c = (omega arith, tally-turn (c .before .before .before .before .args .session .now) _ (c .before .before .loop .place) (c .before .before .loop .count) (c .missed-at .result) (c .before .before .loop .inv .1) (c .missed-at .ensures .0), omega arith)
 
 returns : tie.Need-returns Inv-loop μ-loop
-unfolding tally cases
+unfolding cases
 returns c = let e : c .before .loop .place ≡ placesMost = omega arith in rw e at (c .before .loop .inv .1)
 
 pub tally-afresh-spec : {M : Type 1} → statement M

@@ -8,7 +8,7 @@ use lib.ListN.{length}
 use Rattle.shapes.specs.Keep.{keepTo}
 use Rattle.memory.proofs.Checks.{byte-few}
 use Rattle.memory.proofs.Formed.{formed-table}
-use Rattle.memory.proofs.Known.{table-known}
+use Rattle.memory.proofs.Known.{session-table}
 use Rattle.reading.proofs.Listed.{listedAt, listed-told, list-told, keep-counted}
 use Rattle.reading.proofs.list.count_listed.Statement.{statement}
 use Rattle.reading.proofs.list.count_listed.Tie as tie
@@ -23,7 +23,7 @@ head-of-requires : tie.Need-head-of-requires Inv-loop μ-loop
 head-of-requires c κs = search needs
 
 numbers-requires : tie.Need-numbers-requires Inv-loop μ-loop
-numbers-requires c κs = table-known (c .before .before .before .args .session .now) (c .head-of .ensures) (c .before .before .before .pre .session-room) (formed-table _ _ (c .before .before .before .pre)) .head
+numbers-requires c κs = session-table (c .before .before .before .args .session .now) (c .head-of .ensures) (c .before .before .before .pre .session-room) (formed-table _ _ (c .before .before .before .pre)) .head
 
 loop-holds : tie.Need-loop-holds Inv-loop μ-loop
 unfolding keepTo
@@ -48,7 +48,7 @@ cast-is-listed : tie.Need-cast-is-listed Inv-loop μ-loop
 cast-is-listed c = omega (arith, c .shared-slice-known3 .given (c .before .before .before .loop .number))
 
 is-listed-requires : tie.Need-is-listed-requires Inv-loop μ-loop
-is-listed-requires c κs = table-known (c .before .before .before .before .before .before .before .before .args .session .now) (c .before .before .before .before .before .head-of .ensures) (c .before .before .before .before .before .before .before .before .pre .session-room) (formed-table _ _ (c .before .before .before .before .before .before .before .before .pre))
+is-listed-requires c κs = session-table (c .before .before .before .before .before .before .before .before .args .session .now) (c .before .before .before .before .before .head-of .ensures) (c .before .before .before .before .before .before .before .before .pre .session-room) (formed-table _ _ (c .before .before .before .before .before .before .before .before .pre))
 
 cast-count : tie.Need-cast-count Inv-loop μ-loop
 cast-count c = search needs

@@ -9,7 +9,7 @@ use lib.ListN.{length}
 use Rattle.shapes.specs.Edit.{filled}
 use Rattle.shapes.proofs.Edit.{length-filled}
 use Rattle.memory.proofs.Formed.{formed-table}
-use Rattle.memory.proofs.Known.{table-known}
+use Rattle.memory.proofs.Known.{session-table}
 use Rattle.reading.proofs.Listed.{listedAt, listed-told, list-told, keep-few, WrittenTo, written-none, written-room, written-more, written-past}
 use Rattle.reading.proofs.list.write_list.Statement.{statement}
 use Rattle.reading.proofs.list.write_list.Tie as tie
@@ -24,7 +24,7 @@ head-of-requires : tie.Need-head-of-requires Inv-loop μ-loop
 head-of-requires c κs = search needs
 
 numbers-requires : tie.Need-numbers-requires Inv-loop μ-loop
-numbers-requires c κs = table-known (c .before .before .before .before .args .session .now) (c .head-of .ensures) (c .before .before .before .before .pre .0 .session-room) (formed-table _ _ (c .before .before .before .before .pre .0)) .head
+numbers-requires c κs = session-table (c .before .before .before .before .args .session .now) (c .head-of .ensures) (c .before .before .before .before .pre .0 .session-room) (formed-table _ _ (c .before .before .before .before .pre .0)) .head
 
 loop-holds : tie.Need-loop-holds Inv-loop μ-loop
 loop-holds c = (omega arith, written-none _ _)
@@ -48,7 +48,7 @@ cast-is-listed : tie.Need-cast-is-listed Inv-loop μ-loop
 cast-is-listed c = omega (arith, c .shared-slice-known3 .given (c .before .before .before .loop .number))
 
 is-listed-requires : tie.Need-is-listed-requires Inv-loop μ-loop
-is-listed-requires c κs = table-known (c .before .before .before .before .before .before .before .before .before .args .session .now) (c .before .before .before .before .before .head-of .ensures) (c .before .before .before .before .before .before .before .before .before .pre .0 .session-room) (formed-table _ _ (c .before .before .before .before .before .before .before .before .before .pre .0))
+is-listed-requires c κs = session-table (c .before .before .before .before .before .before .before .before .before .args .session .now) (c .before .before .before .before .before .head-of .ensures) (c .before .before .before .before .before .before .before .before .before .pre .0 .session-room) (formed-table _ _ (c .before .before .before .before .before .before .before .before .before .pre .0))
 
 cast-out : tie.Need-cast-out Inv-loop μ-loop
 cast-out c = search needs

@@ -1,5 +1,5 @@
 -- `reading::save::record_bytes` meets its contract. The loop's invariant: the bytes are the three of the head and those of the cases held
--- below the place, at most 511 for each.
+-- below the place, for each at most as many as a place has.
 -- Assumes nothing.
 use Prim.Native.Nat.{_+_, _-_, _*_, _≤_}
 use mathlib.Core.Path.{_≡_, sym, _∙_}
@@ -7,14 +7,14 @@ use lib.ListN.{length}
 use Rattle.shapes.proofs.First.{all-at}
 use Rattle.house.specs.File.{restAt}
 use Rattle.house.specs.Cases.{restOf}
-use Rattle.memory.specs.Layout.{placesMost, heldTo, cases}
+use Rattle.memory.specs.Layout.{placesMost, placeSize, heldTo, cases}
 use Rattle.reading.proofs.Saved.{rest-begins, rest-turn, record-long}
 use native.Mathlib.Omega.{arith}
 use Rattle.reading.proofs.save.record_bytes.Statement.{statement}
 use Rattle.reading.proofs.save.record_bytes.Tie as tie
 
 abbrev Inv-loop : tie.InvT-loop
-Inv-loop session bytes₀ place₀ bytes place = (place ≤ placesMost) × ((bytes ≡ restAt + length (restOf (heldTo session place))) × (bytes ≤ restAt + 511 * place))
+Inv-loop session bytes₀ place₀ bytes place = (place ≤ placesMost) × ((bytes ≡ restAt + length (restOf (heldTo session place))) × (bytes ≤ restAt + placeSize * place))
 
 abbrev μ-loop : tie.MeasureT-loop
 μ-loop session bytes₀ place₀ bytes place = placesMost - place

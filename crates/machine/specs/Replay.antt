@@ -1,5 +1,6 @@
 -- The replay of a case: state, step reached and symptoms so far, one step after the other (document 01, "Machine").
 use Prim.Native.Nat.{ℕ, _+_, _<_, _≤_}
+use mathlib.Core.Path.{_≡_}
 use mathlib.Core.List.{List, [], _∷_}
 use mathlib.Core.Bool.{cond}
 use lib.Dec.{eqb}
@@ -36,6 +37,10 @@ unfoldable pub replayed : Machine → Replay → List ℕ → List ℕ → Repla
 replayed M r [] ys = r
 replayed M r (i ∷ is) [] = r
 replayed M r (i ∷ is) (y ∷ ys) = replayed M (taken M r i y) is ys
+
+-- one replay stands a step after another
+abbrev pub NextStep : Replay → Replay → Type 0
+NextStep r x = x .step ≡ r .step + 1
 
 -- what is known of a replay on its way
 pub record ReplayIn (h : Head) (r : Replay) : Type 0 where

@@ -9,7 +9,7 @@ use crate::fault::Fault;
 use crate::head::Head;
 use shapes::byte;
 ghost use mathlib.Core.Path.{_≡_};
-ghost use Prim.Native.Nat.{_+_, _<_, _≤_};
+ghost use Prim.Native.Nat.{_<_, _≤_};
 ghost use lib.ListN.{length};
 ghost use Rattle.machine.specs.Limits.{stepsMost};
 ghost use Rattle.machine.specs.Head.{cellCount, numbers};
@@ -19,7 +19,7 @@ ghost use Rattle.machine.specs.Fault.{changeAt, under, changed};
 ghost use Rattle.machine.specs.Case.{CaseIn, InputsIn};
 ghost use Rattle.machine.specs.Run.{agrees, executed, symptomsOf, reproduces};
 ghost use Rattle.machine.specs.Marks.{marked};
-ghost use Rattle.machine.specs.Replay.{fresh, stepped, taken, ReplayIn};
+ghost use Rattle.machine.specs.Replay.{fresh, stepped, taken, NextStep, ReplayIn};
 
 // The state in which a case begins.
 const INITIAL: usize = 0;
@@ -97,7 +97,7 @@ fn specified_step(head: Head, cells: &[u8], replay: Replay, input: usize, observ
     requires { ⌜ (replay .step < stepsMost) × (input < head .inputs) ⌝ }
     ensures step { λ r. ⌜ r ≡ taken (specified head (now (cells .entry))) replay input observed ⌝ }
     ensures known { λ r. ⌜ ReplayIn head r ⌝ }
-    ensures next { λ r. ⌜ r .step ≡ replay .step + 1 ⌝ }
+    ensures next { λ r. ⌜ NextStep replay r ⌝ }
 {
     let to = specified_move(head, cells, replay.state, input);
     replay.step(to, observed)
@@ -133,7 +133,7 @@ fn changed_step(
     requires { ⌜ (replay .step < stepsMost) × (input < head .inputs) ⌝ }
     ensures step { λ r. ⌜ r ≡ taken (under (specified head (now (cells .entry))) change) replay input observed ⌝ }
     ensures known { λ r. ⌜ ReplayIn head r ⌝ }
-    ensures next { λ r. ⌜ r .step ≡ replay .step + 1 ⌝ }
+    ensures next { λ r. ⌜ NextStep replay r ⌝ }
 {
     let to = changed_move(head, cells, change.cell, change.to, replay.state, input);
     replay.step(to, observed)

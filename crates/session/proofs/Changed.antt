@@ -39,10 +39,10 @@ use Rattle.session.specs.Calls.{Offer, after, outcomeOr, addRules, addCa
 use Rattle.session.specs.Tallies.{canTake, raised, lowered}
 use Rattle.memory.specs.Store.{placed}
 use Rattle.memory.proofs.Formed.{formed-table, formed-tally, table-good, cases-most}
-use Rattle.memory.proofs.Stored.{head-placed, cells-placed, length-placed}
+use Rattle.memory.proofs.Stored.{head-placed, length-placed}
 use Rattle.session.proofs.Tallied.{lowered-in, length-lowered, length-raised}
 use Rattle.memory.proofs.Held.{good-fits, slot-inside, add-count, free-left, formed-numbers}
-use Rattle.session.proofs.Kept.{add-keeps, loaded-same}
+use Rattle.session.proofs.Kept.{add-keeps}
 use Rattle.memory.proofs.Known.{told-fine, told-refused, rules-formed, rules-slot, slot-room}
 
 -- a tally in use is at most 64
@@ -271,7 +271,6 @@ module _ (s t file : List ℕ) (count : ℕ) where
         let k = holding-next l (caseAt file at) refl in
         let f = good-fits (headOf s′) (caseAt file at) (k .1 .0) in
         let head = head-placed s′ (k .0 .session-room) (freePlace s′) (k .1 .1) (caseAt file at) f in
-        let cells = cells-placed s′ (k .0 .session-room) (freePlace s′) (k .1 .1) (caseAt file at) f in
         record {
           inside = omega arith;
           place = place-next file i at (getD file at 0) (h .place) refl;
@@ -279,10 +278,7 @@ module _ (s t file : List ℕ) (count : ℕ) where
           same-session = length-placed s′ (k .0 .session-room) (freePlace s′) (k .1 .1) (caseAt file at) f ∙ h .same-session;
           same-tallies = length-raised s′ (caseAt file at) t′ ∙ h .same-tallies;
           stored = rw n at (h .stored);
-          counted =
-              loaded-same s′ (placed s′ (freePlace s′) (caseAt file at)) (casesFrom file (count - (i + 1)) (caseEnd file at))
-              (raised s′ (caseAt file at) t′) head cells
-              ∙ (rw n at (h .counted));
+          counted = rw n at (h .counted);
           good = subst (λ (g : Head). allGood g (casesFrom file (count - (i + 1)) (caseEnd file at)) ≡ true) (sym head) (next-good l .1);
           room = omega (arith, h .room, add-count s′ t′ (caseAt file at) (k .0) (k .1 .0) (k .1 .1));
         }

@@ -39,7 +39,7 @@ use Rattle.memory.proofs.Formed.{cases-most}
 use Rattle.memory.proofs.Known.{room-rules, formed-rules}
 use Rattle.memory.proofs.Stored.{Fits, no-fits, head-placed, cells-placed, case-placed, held-placed, steps-elsewhere, case-elsewhere}
 use Rattle.memory.proofs.Held.{good-fits, good-fills, slot-inside, places-few, add-count, free-left}
-use Rattle.session.proofs.Kept.{add-keeps, withdraw-keeps, amend-keeps, loaded-same}
+use Rattle.session.proofs.Kept.{add-keeps, withdraw-keeps, amend-keeps}
 use Rattle.memory.proofs.Started.{start-keeps, started-byte, started-free, table-short, started-table}
 use Rattle.session.proofs.True.{add-true, true-can-take, withdraw-true, amend-true, start-true}
 
@@ -223,9 +223,7 @@ load-shows s t m (c ∷ cs) k good few =
     let n = add-count s t c (k .formed) (g .0) l in
     let next = add-shows s t m k c (g .0) l in
     let head = next .same-head ∙ sym (k .same-head) in
-    let cells = next .same-cells ∙ sym (k .same-cells) in
-    rw (← loaded-same s (placed s (freePlace s) c) cs (raised s c t) head cells)
-    (load-shows (placed s (freePlace s) c) (raised s c t) _ cs next (subst (λ (h : Head). allGood h cs ≡ true) (sym head) (g .1)) (omega arith))
+    load-shows (placed s (freePlace s) c) (raised s c t) _ cs next (subst (λ (h : Head). allGood h cs ≡ true) (sym head) (g .1)) (omega arith)
 
 -- after a start the cells are the file's, zero after those used
 started-cells : (s file : List ℕ) → sessionSize ≤ length s → sessionSize ≤ length (started s file) → cellsOf (started s file) ≡ cellBytes file

@@ -1,24 +1,22 @@
 -- Every change keeps the form: an add, a withdrawal and an amendment by what the place and the tallies then hold; a load is adds, one after the
 -- other. Assumes nothing.
 use Prim.Native.Nat.{ℕ, _+_, _-_, _≤_, _<_}
-use mathlib.Core.Path.{_≡_, refl, sym, ap, subst, _∙_}
+use mathlib.Core.Path.{_≡_, sym, subst, _∙_}
 use mathlib.Core.List.{List, [], _∷_}
 use mathlib.Core.Bool.{true}
 use native.Mathlib.Omega.{arith}
 use lib.ListN.{length, getD}
-use Rattle.shapes.specs.Keep.{bit, every}
-use Rattle.shapes.specs.Edit.{edit}
+use Rattle.shapes.specs.Keep.{every}
 use Rattle.shapes.proofs.Tests.{and-true}
 use Rattle.machine.specs.Head.{numbers}
 use Rattle.machine.specs.Case.{Case, goodCase, allGood, noCase}
 use Rattle.machine.specs.declared.head.Head.{Head}
-use Rattle.diagnosis.specs.Diagnosis.{misses}
-use Rattle.memory.specs.Layout.{placesMost, headOf, cellsOf, caseOf, cases, freePlace}
+use Rattle.memory.specs.Layout.{placesMost, headOf, caseOf, cases, freePlace}
 use Rattle.memory.specs.Form.{Formed, isSlot}
-use Rattle.session.specs.Tallies.{miss, canTake, raised, lowered}
+use Rattle.session.specs.Tallies.{canTake, raised, lowered}
 use Rattle.memory.specs.Store.{placed}
 use Rattle.session.specs.Calls.{loadedSession, loadedTallies}
-use Rattle.memory.proofs.Stored.{Fits, no-fits, head-placed, cells-placed, place-stored, place-cleared}
+use Rattle.memory.proofs.Stored.{Fits, no-fits, head-placed, place-stored, place-cleared}
 use Rattle.session.proofs.Tallied.{raised-out, length-raised, raised-few, lowered-in, lowered-out, length-lowered, can-take-at}
 use Rattle.memory.proofs.Held.{good-fits, slot-inside, add-count, withdraw-count, amend-count, place-keeps, free-left}
 
@@ -66,19 +64,6 @@ amend-keeps s t p c k slot can g =
         rw (amend-count s t p c k slot g)
         (omega (arith, raised-few s c less f .1, lowered-in s (caseOf s p) t f m n, can-take-at s t p f can m .1, withdraw-count s t p k slot))
 
--- a case counts alike with every session of the same table
-raised-same : (s s′ : List ℕ) (c : Case) (t : List ℕ) → headOf s′ ≡ headOf s → cellsOf s′ ≡ cellsOf s → raised s′ c t ≡ raised s c t
-unfolding raised miss
-raised-same s s′ c t head cells = λ i. edit (λ f old. old + bit (misses (head i) (cells i) f c)) 0 (numbers (head i)) t
-
--- and so do the cases of a load
-pub loaded-same : (s s′ : List ℕ) (cs : List Case) (t : List ℕ) → headOf s′ ≡ headOf s → cellsOf s′ ≡ cellsOf s
-    → loadedTallies s′ cs t ≡ loadedTallies s cs t
-unfolding loadedTallies
-loaded-same s s′ [] t head cells = refl
-loaded-same s s′ (c ∷ cs) t head cells =
-    ap (loadedTallies s′ cs) (raised-same s s′ c t head cells) ∙ loaded-same s s′ cs (raised s c t) head cells
-
 -- a load is adds, one after the other: what every add keeps a load keeps
 pub load-adds : (P : List ℕ → List ℕ → Type 0)
     → ((s t : List ℕ) (c : Case) → Formed s t → P s t → goodCase (headOf s) (c .inputs) (c .outputs) ≡ true → freePlace s < placesMost
@@ -92,10 +77,8 @@ load-adds P add s t (c ∷ cs) k now good few =
     let l = free-left s (omega arith) in
     let n = add-count s t c k (g .0) l in
     let head = head-placed s (k .session-room) (freePlace s) l c (good-fits (headOf s) c (g .0)) in
-    let cells = cells-placed s (k .session-room) (freePlace s) l c (good-fits (headOf s) c (g .0)) in
-    subst (P (loadedSession (placed s (freePlace s) c) cs)) (loaded-same s (placed s (freePlace s) c) cs (raised s c t) head cells)
-    (load-adds P add (placed s (freePlace s) c) (raised s c t) cs (add-keeps s t c k (g .0) l) (add s t c k now (g .0) l)
-    (subst (λ (h : Head). allGood h cs ≡ true) (sym head) (g .1)) (omega arith))
+    load-adds P add (placed s (freePlace s) c) (raised s c t) cs (add-keeps s t c k (g .0) l) (add s t c k now (g .0) l)
+    (subst (λ (h : Head). allGood h cs ≡ true) (sym head) (g .1)) (omega arith)
 
 -- so it keeps the form
 pub load-keeps : (s t : List ℕ) (cs : List Case) → Formed s t → allGood (headOf s) cs ≡ true → length (cases s) + length cs ≤ placesMost

@@ -27,12 +27,12 @@ raised-in s c t f l k = rw zero-add at (edit-in (λ f old. old + miss s c f) 0 (
 -- no other is changed
 pub raised-out : (s : List ℕ) (c : Case) (t : List ℕ) (f : ℕ) → numbers (headOf s) ≤ f → getD (raised s c t) f 0 ≡ getD t f 0
 unfolding raised
-raised-out s c t f l = edit-out-above _ 0 (numbers (headOf s)) t f (omega arith)
+raised-out s c t f l = edit-out-above _ 0 _ t f (omega arith)
 
 -- the length stays
 pub length-raised : (s : List ℕ) (c : Case) (t : List ℕ) → length (raised s c t) ≡ length t
 unfolding raised
-length-raised s c t = length-edit _ 0 (numbers (headOf s)) t
+length-raised s c t = length-edit _ 0 _ t
 
 -- a number in use has its miss taken away
 pub lowered-in : (s : List ℕ) (c : Case) (t : List ℕ) (f : ℕ) → f < numbers (headOf s) → f < length t → getD (lowered s c t) f 0 ≡ getD t f 0 - miss s c f
@@ -42,12 +42,12 @@ lowered-in s c t f l k = rw zero-add at (edit-in (λ f old. old - miss s c f) 0 
 -- no other is changed
 pub lowered-out : (s : List ℕ) (c : Case) (t : List ℕ) (f : ℕ) → numbers (headOf s) ≤ f → getD (lowered s c t) f 0 ≡ getD t f 0
 unfolding lowered
-lowered-out s c t f l = edit-out-above _ 0 (numbers (headOf s)) t f (omega arith)
+lowered-out s c t f l = edit-out-above _ 0 _ t f (omega arith)
 
 -- the length stays
 pub length-lowered : (s : List ℕ) (c : Case) (t : List ℕ) → length (lowered s c t) ≡ length t
 unfolding lowered
-length-lowered s c t = length-edit _ 0 (numbers (headOf s)) t
+length-lowered s c t = length-edit _ 0 _ t
 
 -- a number misses a case once at most
 pub miss-few : (s : List ℕ) (c : Case) (f : ℕ) → miss s c f ≤ 1

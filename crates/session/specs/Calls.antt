@@ -63,14 +63,14 @@ unfoldable pub amendCall : List ℕ → List ℕ → ℕ → Offer → Outcome
 amendCall s t p o =
     outcomeOr (ruling (amendRules s t p o)) 0 s t (placed s p (o .case)) (raised s (o .case) (lowered s (caseOf s p) t))
 
--- load: "adds a record's cases in order, all or none"
+-- load: "adds a record's cases in order, all or none": what the adds leave in the session and in the tallies, one after the other
 unfoldable pub loadedSession : List ℕ → List Case → List ℕ
 loadedSession s [] = s
 loadedSession s (c ∷ cs) = loadedSession (placed s (freePlace s) c) cs
 
 unfoldable pub loadedTallies : List ℕ → List Case → List ℕ → List ℕ
 loadedTallies s [] t = t
-loadedTallies s (c ∷ cs) t = loadedTallies s cs (raised s c t)
+loadedTallies s (c ∷ cs) t = loadedTallies (placed s (freePlace s) c) cs (raised s c t)
 
 -- then FULL: "fewer free places than cases to add"
 unfoldable pub roomForRules : List ℕ → List Case → List (Rule Refusal)

@@ -37,8 +37,8 @@ single m = record { head = record { states = 1; inputs = 1; outputs = m }; cells
 abbrev pub verdict : Table → List Case → Verdict
 verdict t cs = verdictOf (someFails (t .head) (t .cells) cs) (list (t .head) (t .cells) cs)
 
-abbrev pub listed : Table → List Case → List ℕ
-listed t cs = list (t .head) (t .cells) cs
+abbrev pub suspects : Table → List Case → List ℕ
+suspects t cs = list (t .head) (t .cells) cs
 
 -- what a row says of a table
 pub data Example : Type 0 where
@@ -58,8 +58,8 @@ pub data Example : Type 0 where
 -- what it means that a row is true
 abbrev pub Holds : Example → Type 0
 Holds (gives t is ys) = expected (specified (t .head) (t .cells)) is ≡ ys
-Holds (diagnoses t cs v l) = (verdict t cs ≡ v) × (listed t cs ≡ l)
-Holds (countsListed t cs v n) = (verdict t cs ≡ v) × (length (listed t cs) ≡ n)
+Holds (diagnoses t cs v l) = (verdict t cs ≡ v) × (suspects t cs ≡ l)
+Holds (countsListed t cs v n) = (verdict t cs ≡ v) × (length (suspects t cs) ≡ n)
 Holds (hasConflict t c l) = keepTo (conflicts (specified (t .head) (t .cells)) c) (cellCount (t .head)) ≡ l
 Holds (hasTally t cs f k) = tally (t .head) (t .cells) cs f ≡ k
 Holds (allTallies t cs v n k) =

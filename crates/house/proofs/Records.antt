@@ -47,7 +47,7 @@ case-fits file at e =
     (leb-true _ _ (w .0), (leb-true _ _ (w .1), leb-true _ _ (a .1)))
 
 -- .. and one with these fits
-pub fits-case : (file : List ℕ) (at : ℕ) → (1 ≤ stepsAt file at) × ((stepsAt file at ≤ stepsMost) × (caseEnd file at ≤ length file))
+fits-case : (file : List ℕ) (at : ℕ) → (1 ≤ stepsAt file at) × ((stepsAt file at ≤ stepsMost) × (caseEnd file at ≤ length file))
     → caseFits file at ≡ true
 unfolding caseFits
 fits-case file at h = rw (le-leb _ _ (h .0), le-leb _ _ (h .1 .0), le-leb _ _ (h .1 .1))

@@ -141,13 +141,13 @@ table-refused file r = (
 )
 
 -- where a table is answered no rule refuses it, and it has the head that the file names
-rules-pass : (file : List ℕ) (h : Head) → tableRead file ≡ Table h → (ruling (tableRules file) ≡ fine) × (h ≡ headIn file)
+table-rules-pass : (file : List ℕ) (h : Head) → tableRead file ≡ Table h → (ruling (tableRules file) ≡ fine) × (h ≡ headIn file)
 unfolding tableRead
-rules-pass file h e = or-taken _ _ e
+table-rules-pass file h e = or-taken _ _ e
 
 -- so none of its rules holds
 pub table-taken : (file : List ℕ) (h : Head) → tableRead file ≡ Table h → (AllFalse (tableRules file)) × (h ≡ headIn file)
-table-taken file h e = let t = rules-pass file h e in (fine-when (tableRules file) .0 (t .0), t .1)
+table-taken file h e = let t = table-rules-pass file h e in (fine-when (tableRules file) .0 (t .0), t .1)
 
 -- a file that SIZE does not refuse names a head and ends with its cells
 size-known : (file : List ℕ) → badSize file ≡ false → (goodHead (headIn file) ≡ true) × (length file ≡ tableBytes (headIn file))
@@ -183,7 +183,7 @@ table-known file h e =
 -- and the rules for every file do not refuse it
 table-fine : (file : List ℕ) (h : Head) → tableRead file ≡ Table h → ruling (fileRules version file) ≡ fine
 unfolding tableRules
-table-fine file h e = ruling-joined (fileRules version file) _ (rules-pass file h e .0) .0
+table-fine file h e = ruling-joined (fileRules version file) _ (table-rules-pass file h e .0) .0
 
 -- a table file is the file made of the three numbers and the cells
 file-of-table : (h : Head) (cells : List ℕ) → 2 * cellCount h ≤ length cells

@@ -140,8 +140,8 @@ pub ends : (h : Head) (M : Machine) (is ys : List ℕ) (t : ℕ) (r : Replay) �
 ends h M is ys t r u l = sym (u .whole) ∙ replay-ended M r is ys t l
 
 -- one that has met a symptom on the way is one of a machine that does not reproduce the case
-pub misses : (h : Head) (M : Machine) (is ys : List ℕ) (t : ℕ) (r : Replay) → Underway h M is ys t r → 0 < r .symptoms → reproduces M is ys ≡ false
-misses h M is ys t r u l =
+pub symptom-misses : (h : Head) (M : Machine) (is ys : List ℕ) (t : ℕ) (r : Replay) → Underway h M is ys t r → 0 < r .symptoms → reproduces M is ys ≡ false
+symptom-misses h M is ys t r u l =
     let met = replay-count M r (drop t is) (drop t ys) in
     rw (reproduces-symptoms, replay-symptoms, ← u .whole) (ne-eqb (replayed M r (drop t is) (drop t ys) .symptoms) 0 (λ none. omega arith))
 

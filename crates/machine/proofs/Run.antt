@@ -136,17 +136,17 @@ first-differing t (g ∷ gs) (y ∷ ys) h = go (agrees y g) refl (first-differin
     go false e rest h = (zero, omega arith, record { within = omega arith; differs = e })
 
 -- before the first such step they agree
-first-before : (t : ℕ) (gs ys : List ℕ) (k : ℕ) → k < length gs → k < length ys → t + k < firstDiffering t gs ys
+before-differing : (t : ℕ) (gs ys : List ℕ) (k : ℕ) → k < length gs → k < length ys → t + k < firstDiffering t gs ys
     → agrees (getD ys k 0) (getD gs k 0) ≡ true
 unfolding firstDiffering
-first-before t [] ys k inside seen h = absurd (omega arith)
-first-before t (g ∷ gs) [] k inside seen h = absurd (omega arith)
-first-before t (g ∷ gs) (y ∷ ys) zero inside seen h = go (agrees y g) refl h
+before-differing t [] ys k inside seen h = absurd (omega arith)
+before-differing t (g ∷ gs) [] k inside seen h = absurd (omega arith)
+before-differing t (g ∷ gs) (y ∷ ys) zero inside seen h = go (agrees y g) refl h
   where
     go : (b : Bool) → agrees y g ≡ b → t + 0 < cond b (firstDiffering (suc t) gs ys) t → agrees y g ≡ true
     go true e h = e
     go false e h = absurd (omega arith)
-first-before t (g ∷ gs) (y ∷ ys) (suc k) inside seen h = go (agrees y g) (first-before (suc t) gs ys k (omega arith) (omega arith)) h
+before-differing t (g ∷ gs) (y ∷ ys) (suc k) inside seen h = go (agrees y g) (before-differing (suc t) gs ys k (omega arith) (omega arith)) h
   where
     go : (b : Bool) → (suc t + k < firstDiffering (suc t) gs ys → agrees (getD ys k 0) (getD gs k 0) ≡ true)
         → t + suc k < cond b (firstDiffering (suc t) gs ys) t → agrees (getD ys k 0) (getD gs k 0) ≡ true
@@ -173,7 +173,7 @@ pub first-agrees : (M : Machine) (is ys : List ℕ) → length ys ≡ length is 
     → agrees (getD ys t 0) (getD (expected M is) t 0) ≡ true
 unfolding symptomsOf
 first-agrees M is ys same t inside h =
-    first-before 0 (expected M is) ys t (omega (arith, length-expected M is)) (omega arith) (omega arith)
+    before-differing 0 (expected M is) ys t (omega (arith, length-expected M is)) (omega arith) (omega arith)
 
 -- matching outputs agree at every step
 matching-agrees : (gs ys : List ℕ) (k : ℕ) → matching gs ys ≡ true → k < length gs → k < length ys → agrees (getD ys k 0) (getD gs k 0) ≡ true

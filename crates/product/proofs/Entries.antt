@@ -8,6 +8,7 @@ use lib.ListN.{length, getD, set}
 use Rattle.shapes.specs.Edit.{edit, filled}
 use Rattle.shapes.proofs.Edit.{edit-none, edit-turn, length-edit}
 use Rattle.machine.specs.Head.{cellCount}
+use Rattle.machine.specs.Cell.{nextByte, outputByte}
 use Rattle.house.specs.Table.{fileCellsAt}
 use Rattle.product.specs.Tables.{productHead, productCells}
 use Rattle.product.specs.declared.Entry.{Entry}
@@ -28,11 +29,11 @@ paired (a ∷ []) = record { next = a; output = 0 } ∷ []
 paired (a ∷ b ∷ l) = record { next = a; output = b } ∷ paired l
 
 -- an entry holds the two numbers at twice its place
-abbrev pub Holds : Entry → List ℕ → ℕ → Type 0
-Holds e cells i = (e .next ≡ getD cells (2 * i) 0) × (e .output ≡ getD cells (2 * i + 1) 0)
+abbrev pub EntryAt : Entry → List ℕ → ℕ → Type 0
+EntryAt e cells i = (e .next ≡ nextByte cells i) × (e .output ≡ outputByte cells i)
 
 -- entry i of numbers as entries does
-paired-holds : (cells : List ℕ) (i : ℕ) → Holds (getD (paired cells) i (record { next = 0; output = 0 })) cells i
+paired-holds : (cells : List ℕ) (i : ℕ) → EntryAt (getD (paired cells) i (record { next = 0; output = 0 })) cells i
 paired-holds [] i = (refl, refl)
 paired-holds (a ∷ []) zero = (refl, refl)
 paired-holds (a ∷ []) (suc i) = (rw (twice i), rw (twice-next i))
@@ -40,7 +41,7 @@ paired-holds (a ∷ b ∷ l) zero = (refl, refl)
 paired-holds (a ∷ b ∷ l) (suc i) = let h = paired-holds l i in (rw (twice i) (h .0), rw (twice-next i) (h .1))
 
 -- so a constant that is a product's cells as entries holds these
-pub entry-held : {m told : Product} (i : ℕ) → m ≡ told → Holds (getD (paired (productCells told)) i (record { next = 0; output = 0 })) (productCells m) i
+pub entry-held : {m told : Product} (i : ℕ) → m ≡ told → EntryAt (getD (paired (productCells told)) i (record { next = 0; output = 0 })) (productCells m) i
 entry-held {told = told} i e = rw e (paired-holds (productCells told) i)
 
 -- a product's cells have two numbers each

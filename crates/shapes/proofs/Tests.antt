@@ -12,8 +12,8 @@ pub lacks : {r b : Bool} → r ≡ b → r ≡ false → b ≡ false
 lacks e t = sym e ∙ t
 
 -- after `if !f(x)`: taken, and left
-pub fails : {r b : Bool} → r ≡ b → not r ≡ true → b ≡ false
-fails {r} e t = sym e ∙ not-true r t
+pub refuted : {r b : Bool} → r ≡ b → not r ≡ true → b ≡ false
+refuted {r} e t = sym e ∙ not-true r t
 
 pub passes : {r b : Bool} → r ≡ b → not r ≡ false → b ≡ true
 passes {r} e t = sym e ∙ not-false r t

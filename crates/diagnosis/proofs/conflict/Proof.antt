@@ -2,7 +2,7 @@
 -- Assumes nothing.
 use borrow.Author.Needs.{needs}
 use mathlib.Core.Path.{_∙_}
-use Rattle.shapes.proofs.Tests.{fails, passes}
+use Rattle.shapes.proofs.Tests.{refuted, passes}
 use Rattle.diagnosis.proofs.Conflicts.{ones-bits, conflict-of-ones, conflict-none}
 use Rattle.diagnosis.proofs.conflict.Statement.{statement}
 use Rattle.diagnosis.proofs.conflict.Tie as tie
@@ -17,7 +17,7 @@ same-length : tie.Need-same-length
 same-length c = search needs
 
 returns : tie.Need-returns
-returns c = c .before .before .fill .ensures ∙ conflict-none _ _ _ (fails (c .before .before .before .before .before .is-failing .ensures) (c .before .before .before .before .if1 .taken))
+returns c = c .before .before .fill .ensures ∙ conflict-none _ _ _ (refuted (c .before .before .before .before .before .is-failing .ensures) (c .before .before .before .before .if1 .taken))
 
 fill-requires-2 : tie.Need-fill-requires-2
 fill-requires-2 c κs = search needs

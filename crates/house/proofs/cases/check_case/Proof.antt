@@ -2,7 +2,7 @@
 -- Assumes nothing.
 use borrow.Author.Needs.{needs}
 use Rattle.shapes.specs.Refusals.{ruling}
-use Rattle.shapes.proofs.Tests.{fails, passes}
+use Rattle.shapes.proofs.Tests.{refuted, passes}
 use Rattle.house.specs.Cases.{caseRules}
 use Rattle.house.proofs.cases.check_case.Statement.{statement}
 use Rattle.house.proofs.cases.check_case.Tie as tie
@@ -12,7 +12,7 @@ is-case-requires c κs = search needs
 
 returns : tie.Need-returns
 unfolding caseRules ruling
-returns c = rw (fails (c .before .is-case .ensures) (c .if1 .taken))
+returns c = rw (refuted (c .before .is-case .ensures) (c .if1 .taken))
 
 returns-2 : tie.Need-returns-2
 unfolding caseRules ruling

@@ -5,7 +5,7 @@ use Prim.Native.Nat.{_-_, _≤_}
 use mathlib.Core.Path.{_≡_, refl, sym, _∙_}
 use native.Mathlib.Omega.{arith}
 use lib.ListN.{length}
-use Rattle.shapes.proofs.Tests.{fails, passes}
+use Rattle.shapes.proofs.Tests.{refuted, passes}
 use Rattle.house.specs.Cases.{casesMost, countFrom, countIn}
 use Rattle.house.proofs.Records.{count-ended, count-full, count-broken, count-turn}
 use Rattle.house.proofs.cases.count_cases.Statement.{statement}
@@ -28,7 +28,7 @@ is-whole-requires : tie.Need-is-whole-requires Inv-loop μ-loop
 is-whole-requires c κs = omega arith
 
 returns-2 : tie.Need-returns-2 Inv-loop μ-loop
-returns-2 c = sym (count-broken _ _ _ _ (omega arith) (fails (c .before .is-whole .ensures) (c .if2 .taken))) ∙ c .before .before .before .before .loop .inv .1
+returns-2 c = sym (count-broken _ _ _ _ (omega arith) (refuted (c .before .is-whole .ensures) (c .if2 .taken))) ∙ c .before .before .before .before .loop .inv .1
 
 add-at : tie.Need-add-at Inv-loop μ-loop
 add-at c = search needs

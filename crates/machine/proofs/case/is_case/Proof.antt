@@ -2,7 +2,7 @@
 -- Assumes nothing.
 use borrow.Author.Needs.{needs}
 use borrow.Author.Tests.{eq-eqb, ne-eqb}
-use Rattle.shapes.proofs.Tests.{fails, passes}
+use Rattle.shapes.proofs.Tests.{refuted, passes}
 use Rattle.machine.specs.Case.{goodCase}
 use Rattle.machine.proofs.case.is_case.Statement.{statement}
 use Rattle.machine.proofs.case.is_case.Tie as tie
@@ -12,7 +12,7 @@ is-within-requires c κs = search needs
 
 returns : tie.Need-returns
 unfolding goodCase
-returns c = rw (fails (c .before .is-within .ensures) (c .if1 .taken))
+returns c = rw (refuted (c .before .is-within .ensures) (c .if1 .taken))
 
 returns-2 : tie.Need-returns-2
 unfolding goodCase

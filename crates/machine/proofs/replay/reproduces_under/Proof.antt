@@ -11,7 +11,7 @@ use Rattle.machine.specs.Fault.{under}
 use Rattle.machine.specs.Machine.{specified}
 use Rattle.machine.proofs.Replayed.{Underway, begins, goes-on, ends, fresh-none, step-asks, replay-reproduces}
 use Rattle.machine.proofs.Replayed.{Underway, begins, goes-on}
-use Rattle.machine.proofs.Replayed.{misses}
+use Rattle.machine.proofs.Replayed.{symptom-misses}
 use Rattle.machine.proofs.replay.reproduces_under.Statement.{statement}
 use Rattle.machine.proofs.replay.reproduces_under.Tie as tie
 
@@ -37,7 +37,7 @@ changed-step-requires : tie.Need-changed-step-requires Inv-loop μ-loop
 changed-step-requires c κs = (c .before .before .before .before .before .before .before .before .pre .0, (c .before .before .before .before .before .before .before .before .pre .1 .0, step-asks _ _ _ _ _ _ _ (c .before .before .before .before .before .before .before .before .pre .1 .1) (c .before .before .before .loop .inv .0) (c .before .before .loop-test .taken) (c .before .byte .ensures .0)))
 
 returns : tie.Need-returns Inv-loop μ-loop
-returns c = let u = goes-on _ _ _ _ _ _ _ _ _ (c .before .before .before .before .before .before .loop .inv .0) (c .before .before .before .before .before .loop-test .taken) (c .before .before .before .before .before .before .before .before .before .before .before .pre .1 .1 .even) (c .before .before .before .before .byte .ensures .0) (c .before .before .before .byte2 .ensures .0) (c .before .before .changed-step .ensures .0) (c .before .before .changed-step .ensures .1) in sym (misses _ _ _ _ _ _ u (pos-of-ne-zero (c .if1 .taken)))
+returns c = let u = goes-on _ _ _ _ _ _ _ _ _ (c .before .before .before .before .before .before .loop .inv .0) (c .before .before .before .before .before .loop-test .taken) (c .before .before .before .before .before .before .before .before .before .before .before .pre .1 .1 .even) (c .before .before .before .before .byte .ensures .0) (c .before .before .before .byte2 .ensures .0) (c .before .before .changed-step .ensures .0) (c .before .before .changed-step .ensures .1) in sym (symptom-misses _ _ _ _ _ _ u (pos-of-ne-zero (c .if1 .taken)))
 
 add-done : tie.Need-add-done Inv-loop μ-loop
 add-done c = omega arith

@@ -6,7 +6,7 @@ use mathlib.Core.Path.{_≡_, sym}
 use mathlib.Core.Bool.{true}
 use native.Mathlib.Omega.{arith}
 use Rattle.shapes.proofs.First.{all-from, all-fails}
-use Rattle.shapes.proofs.Tests.{fails, passes}
+use Rattle.shapes.proofs.Tests.{refuted, passes}
 use Rattle.memory.specs.Layout.{placesMost}
 use Rattle.memory.specs.Form.{goodPlace}
 use Rattle.memory.proofs.form.are_places.Statement.{statement}
@@ -25,7 +25,7 @@ is-place-requires : tie.Need-is-place-requires Inv-loop μ-loop
 is-place-requires c κs = omega arith
 
 returns : tie.Need-returns Inv-loop μ-loop
-returns c = sym (all-fails _ _ _ (c .before .before .loop-test .taken) (fails (c .before .is-place .ensures) (c .if1 .taken)))
+returns c = sym (all-fails _ _ _ (c .before .before .loop-test .taken) (refuted (c .before .is-place .ensures) (c .if1 .taken)))
 
 add-place : tie.Need-add-place Inv-loop μ-loop
 add-place c = omega arith

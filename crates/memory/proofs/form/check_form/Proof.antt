@@ -2,7 +2,7 @@
 -- Assumes nothing.
 use borrow.Author.Needs.{needs}
 use mathlib.Core.Path.{sym, _∙_}
-use Rattle.shapes.proofs.Tests.{fails, passes}
+use Rattle.shapes.proofs.Tests.{refuted, passes}
 use Rattle.memory.proofs.Checks.{form-short, room-known, form-damaged, form-fine}
 use Rattle.memory.proofs.form.check_form.Statement.{statement}
 use Rattle.memory.proofs.form.check_form.Tie as tie
@@ -23,7 +23,7 @@ is-formed-requires : tie.Need-is-formed-requires
 is-formed-requires c κs = room-known (c .before .before .before .before .before .args .session .now) (c .before .before .before .before .before .args .tallies .now) (sym (c .before .before .check-room .ensures) ∙ c .enum-told .given .1)
 
 returns-2 : tie.Need-returns-2
-returns-2 c = sym (form-damaged (c .before .before .before .before .before .before .before .args .session .now) (c .before .before .before .before .before .before .before .args .tallies .now) (sym (c .before .before .before .before .check-room .ensures) ∙ c .before .before .enum-told .given .1) (fails (c .before .is-formed .ensures) (c .if1 .taken)))
+returns-2 c = sym (form-damaged (c .before .before .before .before .before .before .before .args .session .now) (c .before .before .before .before .before .before .before .args .tallies .now) (sym (c .before .before .before .before .check-room .ensures) ∙ c .before .before .enum-told .given .1) (refuted (c .before .is-formed .ensures) (c .if1 .taken)))
 
 returns-3 : tie.Need-returns-3
 returns-3 c = sym (form-fine (c .before .before .before .before .before .before .before .args .session .now) (c .before .before .before .before .before .before .before .args .tallies .now) (sym (c .before .before .before .before .check-room .ensures) ∙ c .before .before .enum-told .given .1) (passes (c .before .is-formed .ensures) (c .if1 .left)))

@@ -3,7 +3,7 @@
 use borrow.Author.Needs.{needs}
 use mathlib.Core.Path.{sym, _∙_}
 use native.Mathlib.Omega.{arith}
-use Rattle.shapes.proofs.Tests.{fails, passes}
+use Rattle.shapes.proofs.Tests.{refuted, passes}
 use Rattle.memory.proofs.Checks.{place-read, clean-fails, clean-rest}
 use Rattle.memory.proofs.form.is_clean.Statement.{statement}
 use Rattle.memory.proofs.form.is_clean.Tie as tie
@@ -24,7 +24,7 @@ is-zero-requires : tie.Need-is-zero-requires
 is-zero-requires c κs = omega (arith, place-read (c .before .before .before .before .before .args .session .now) (c .before .before .before .before .before .args .place) (c .before .before .before .of .ensures .0))
 
 returns : tie.Need-returns
-returns c = sym (clean-fails _ _ (c .before .before .before .before .before .of .ensures .0) (fails (c .before .is-zero .ensures) (c .if1 .taken)))
+returns c = sym (clean-fails _ _ (c .before .before .before .before .before .of .ensures .0) (refuted (c .before .is-zero .ensures) (c .if1 .taken)))
 
 add-is-zero-3 : tie.Need-add-is-zero-3
 add-is-zero-3 c = omega (arith, place-read (c .before .before .before .before .before .before .before .before .args .session .now) (c .before .before .before .before .before .before .before .before .args .place) (c .before .before .before .before .before .before .of .ensures .0))

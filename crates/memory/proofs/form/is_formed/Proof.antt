@@ -2,7 +2,7 @@
 -- Assumes nothing.
 use borrow.Author.Needs.{needs}
 use native.Mathlib.Omega.{arith}
-use Rattle.shapes.proofs.Tests.{fails, passes}
+use Rattle.shapes.proofs.Tests.{refuted, passes}
 use Rattle.memory.specs.Form.{wellFormed}
 use Rattle.memory.proofs.form.is_formed.Statement.{statement}
 use Rattle.memory.proofs.form.is_formed.Tie as tie
@@ -12,14 +12,14 @@ is-table-requires c κs = search needs
 
 returns : tie.Need-returns
 unfolding wellFormed
-returns c = rw (fails (c .before .is-table .ensures) (c .if1 .taken))
+returns c = rw (refuted (c .before .is-table .ensures) (c .if1 .taken))
 
 are-places-requires : tie.Need-are-places-requires
 are-places-requires c κs = search needs
 
 returns-2 : tie.Need-returns-2
 unfolding wellFormed
-returns-2 c = rw (passes (c .before .before .before .is-table .ensures) (c .before .before .if1 .left), fails (c .before .are-places .ensures) (c .if2 .taken))
+returns-2 c = rw (passes (c .before .before .before .is-table .ensures) (c .before .before .if1 .left), refuted (c .before .are-places .ensures) (c .if2 .taken))
 
 are-tallies-requires : tie.Need-are-tallies-requires
 are-tallies-requires c κs = (omega arith, passes (c .before .before .before .is-table .ensures) (c .before .before .if1 .left))

@@ -3,7 +3,7 @@
 use borrow.Author.Needs.{needs}
 use mathlib.Core.Path.{sym, _∙_}
 use native.Mathlib.Omega.{arith}
-use Rattle.shapes.proofs.Tests.{fails, passes}
+use Rattle.shapes.proofs.Tests.{refuted, passes}
 use Rattle.memory.proofs.Checks.{place-read, place-long, place-unclean, place-free, place-held}
 use Rattle.memory.proofs.Known.{good-told}
 use Rattle.memory.proofs.form.is_place.Statement.{statement}
@@ -19,7 +19,7 @@ is-clean-requires : tie.Need-is-clean-requires
 is-clean-requires c κs = omega (arith, place-read (c .before .before .before .args .session .now) (c .before .before .before .args .place) (c .before .of .ensures .0))
 
 returns-2 : tie.Need-returns-2
-returns-2 c = sym (place-unclean _ _ (omega (arith, place-read (c .before .before .before .before .before .args .session .now) (c .before .before .before .before .before .args .place) (c .before .before .before .of .ensures .0))) (fails (c .before .is-clean .ensures) (c .if2 .taken)))
+returns-2 c = sym (place-unclean _ _ (omega (arith, place-read (c .before .before .before .before .before .args .session .now) (c .before .before .before .before .before .args .place) (c .before .before .before .of .ensures .0))) (refuted (c .before .is-clean .ensures) (c .if2 .taken)))
 
 returns-3 : tie.Need-returns-3
 returns-3 c = sym (place-free _ _ (omega (arith, place-read (c .before .before .before .before .before .before .args .session .now) (c .before .before .before .before .before .before .args .place) (c .before .before .before .before .of .ensures .0))) (passes (c .before .before .is-clean .ensures) (c .before .if2 .left)) (omega (arith, place-read (c .before .before .before .before .before .before .args .session .now) (c .before .before .before .before .before .before .args .place) (c .before .before .before .before .of .ensures .0))))

@@ -1,7 +1,7 @@
 -- `reading::conflicts::candidates` meets its contract: what the form's check refuses, then SHORT; where no case fails all are 0, and else the
 -- cases leave the candidates of all ones.
 -- Assumes nothing.
-use Rattle.shapes.proofs.Tests.{fails, passes}
+use Rattle.shapes.proofs.Tests.{refuted, passes}
 use Rattle.diagnosis.proofs.Conflicts.{ones-bits}
 use Rattle.memory.proofs.Formed.{formed-table, formed-places}
 use Rattle.memory.proofs.Known.{told-fine, rules-formed}
@@ -36,7 +36,7 @@ same-length : tie.Need-same-length
 same-length c = search needs
 
 returns-3 : tie.Need-returns-3
-returns-3 c = candidates-written _ _ (c .before .before .before .before .before .before .before .before .before .check-form .ensures) (c .before .before .before .before .before .before .before .enum-told .given .1) _ _ (omega arith) (candidates-none _ _ _ _ _ (fails (c .before .before .before .before .before .is-some-failing .ensures) (c .before .before .before .before .if2 .taken)) (c .before .before .fill .ensures))
+returns-3 c = candidates-written _ _ (c .before .before .before .before .before .before .before .before .before .check-form .ensures) (c .before .before .before .before .before .before .before .enum-told .given .1) _ _ (omega arith) (candidates-none _ _ _ _ _ (refuted (c .before .before .before .before .before .is-some-failing .ensures) (c .before .before .before .before .if2 .taken)) (c .before .before .fill .ensures))
 
 fill-requires-2 : tie.Need-fill-requires-2
 fill-requires-2 c κs = search needs

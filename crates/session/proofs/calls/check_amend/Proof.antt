@@ -4,7 +4,7 @@ use borrow.Author.Needs.{needs}
 use mathlib.Core.Path.{sym, ap, _∙_}
 use mathlib.Core.Bool.{not}
 use Rattle.shapes.proofs.Refusals.{ruling-here, ruling-past, ruling-end}
-use Rattle.shapes.proofs.Tests.{fails, passes}
+use Rattle.shapes.proofs.Tests.{refuted, passes}
 use Rattle.house.specs.Refusal.{checked}
 use Rattle.session.specs.Calls.{amendRules}
 use Rattle.memory.proofs.Known.{told-fine, rules-slot, part-fine, part-refused}
@@ -46,7 +46,7 @@ can-take-requires c κs = rules-slot _ _ _ (told-fine _ (c .before .before .befo
 
 returns-3 : tie.Need-returns-3
 unfolding amendRules
-returns-3 c = sym (ap checked (part-fine _ _ (c .before .before .before .before .before .before .before .before .check-slot .ensures) (c .before .before .before .before .before .before .enum-told .given .1) ∙ part-fine _ _ (case-told (c .before .before .before .before .before .before .before .before .before .before .before .before .before .args .session .now) (c .before .before .before .before .before .head-of .ensures) _ _ (c .before .before .before .before .check-case .ensures)) (c .before .before .enum-told2 .given .1) ∙ ruling-here _ _ (ap not (fails (c .before .can-take .ensures) (c .if1 .taken)))))
+returns-3 c = sym (ap checked (part-fine _ _ (c .before .before .before .before .before .before .before .before .check-slot .ensures) (c .before .before .before .before .before .before .enum-told .given .1) ∙ part-fine _ _ (case-told (c .before .before .before .before .before .before .before .before .before .before .before .before .before .args .session .now) (c .before .before .before .before .before .head-of .ensures) _ _ (c .before .before .before .before .check-case .ensures)) (c .before .before .enum-told2 .given .1) ∙ ruling-here _ _ (ap not (refuted (c .before .can-take .ensures) (c .if1 .taken)))))
 
 returns-4 : tie.Need-returns-4
 unfolding amendRules

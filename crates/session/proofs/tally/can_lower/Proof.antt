@@ -7,7 +7,7 @@ use borrow.Author.Needs.{needs}
 use borrow.Author.Count.{below-more}
 use native.Mathlib.Omega.{arith}
 use Rattle.shapes.proofs.First.{all-from, all-fails}
-use Rattle.shapes.proofs.Tests.{fails, passes}
+use Rattle.shapes.proofs.Tests.{refuted, passes}
 use Rattle.session.specs.Tallies.{canLower}
 use Rattle.session.proofs.Tallying.{count-told, miss-told, canLose, lose-told}
 use Rattle.session.proofs.tally.can_lower.Statement.{statement}
@@ -70,7 +70,7 @@ unfolding canLower
 returns c = sym
     (all-fails _ _ (c .before .before .before .before .before .before .loop .number)
     (omega (arith, count-told (c .before .before .before .before .before .before .before .before .before .before .before .before .before .before .before .before .before .args .session .now) _ (c .before .before .before .before .before .before .before .before .before .before .before .before .head-of .ensures) _ (c .before .before .before .before .before .before .before .before .before .before .before .numbers .ensures .0)))
-    (fails (lose-told _ _ (c .before .before .before .before .before .before .before .before .before .before .before .before .before .before .before .before .before .args .tallies .now) (c .before .before .before .before .before .before .before .before .before .before .before .before .before .before .before .before .before .args .left) _ _ (miss-told _ _ (c .before .before .before .before .before .before .before .before .before .before .before .before .head-of .ensures) _ _ _ (c .before .before .before .missed .ensures .0)) (c .before .is-fair .ensures)) (c .if1 .taken)))
+    (refuted (lose-told _ _ (c .before .before .before .before .before .before .before .before .before .before .before .before .before .before .before .before .before .args .tallies .now) (c .before .before .before .before .before .before .before .before .before .before .before .before .before .before .before .before .before .args .left) _ _ (miss-told _ _ (c .before .before .before .before .before .before .before .before .before .before .before .before .head-of .ensures) _ _ _ (c .before .before .before .missed .ensures .0)) (c .before .is-fair .ensures)) (c .if1 .taken)))
 
 add-number : tie.Need-add-number Inv-loop μ-loop
 add-number c = omega arith

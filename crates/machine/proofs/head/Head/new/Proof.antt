@@ -2,7 +2,7 @@
 -- Assumes nothing.
 use borrow.Author.Needs.{needs}
 use mathlib.Core.Path.{refl}
-use Rattle.shapes.proofs.Tests.{fails, passes}
+use Rattle.shapes.proofs.Tests.{refuted, passes}
 use Rattle.machine.specs.Head.{goodHead, madeHead}
 use Rattle.machine.proofs.head.Head.new.Statement.{statement}
 use Rattle.machine.proofs.head.Head.new.Tie as tie
@@ -12,14 +12,14 @@ is-within-requires c κs = search needs
 
 returns : tie.Need-returns
 unfolding madeHead goodHead
-returns c = (rw (fails (c .before .is-within .ensures) (c .if1 .taken)), refl)
+returns c = (rw (refuted (c .before .is-within .ensures) (c .if1 .taken)), refl)
 
 is-within-requires-2 : tie.Need-is-within-requires-2
 is-within-requires-2 c κs = search needs
 
 returns-2 : tie.Need-returns-2
 unfolding madeHead goodHead
-returns-2 c = (rw (passes (c .before .before .before .is-within .ensures) (c .before .before .if1 .left), fails (c .before .is-within2 .ensures) (c .if2 .taken)), refl)
+returns-2 c = (rw (passes (c .before .before .before .is-within .ensures) (c .before .before .if1 .left), refuted (c .before .is-within2 .ensures) (c .if2 .taken)), refl)
 
 is-within-requires-3 : tie.Need-is-within-requires-3
 is-within-requires-3 c κs = search needs
@@ -28,7 +28,7 @@ returns-3 : tie.Need-returns-3
 unfolding madeHead goodHead
 returns-3 c = (
   rw
-      (passes (c .before .before .before .before .before .is-within .ensures) (c .before .before .before .before .if1 .left), passes (c .before .before .before .is-within2 .ensures) (c .before .before .if2 .left), fails (c .before .is-within3 .ensures) (c .if3 .taken)),
+      (passes (c .before .before .before .before .before .is-within .ensures) (c .before .before .before .before .if1 .left), passes (c .before .before .before .is-within2 .ensures) (c .before .before .if2 .left), refuted (c .before .is-within3 .ensures) (c .if3 .taken)),
   refl,
 )
 

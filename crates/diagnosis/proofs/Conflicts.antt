@@ -26,7 +26,7 @@ use Rattle.machine.proofs.Cases.{case-step}
 use Rattle.machine.proofs.Marks.{length-marked, marked-at, executed-in}
 use Rattle.machine.proofs.Run.{reproduces-symptoms, first-step, prefix-executed}
 use Rattle.diagnosis.specs.Diagnosis.{explains, fails, conflicts, conflictBytes}
-use Rattle.diagnosis.specs.Loops.{narrowed, swept, Bits}
+use Rattle.diagnosis.specs.Loops.{narrowed, swept, Bits, spread, sweptAll}
 
 -- a case fails exactly if it has a symptom
 pub fails-count : (M : Machine) (c : Case) → fails M c ≡ not (eqb (symptomsOf M (c .inputs) (c .outputs) .count) 0)
@@ -68,8 +68,7 @@ swept-bare v l = rw (ne-eqb v 3 (λ e. omega arith))
 -- the sweep of what was marked is what the case leaves
 narrows : (h : Head) (cells : List ℕ) → TableIn h cells → (c : Case) → CaseIn h (c .inputs) (c .outputs) → (out : List ℕ) → Bits out
     → fails (specified h cells) c ≡ true
-    → edit (λ cell old. swept old) 0 cellsMost
-    (marked (executed (specified h cells) (take (symptomsOf (specified h cells) (c .inputs) (c .outputs) .first + 1) (c .inputs))) out)
+    → sweptAll (marked (executed (specified h cells) (take (symptomsOf (specified h cells) (c .inputs) (c .outputs) .first + 1) (c .inputs))) out)
     ≡ narrowed (specified h cells) c out
 unfolding narrowed conflicts
 narrows h cells t c k out bits bad =
@@ -118,7 +117,7 @@ narrows h cells t c k out bits bad =
 pub narrows-out : (h : Head) (cells : List ℕ) → TableIn h cells → (c : Case) → CaseIn h (c .inputs) (c .outputs) → (out : List ℕ) → Bits out
     → (s : Symptoms) → s ≡ symptomsOf (specified h cells) (c .inputs) (c .outputs) → fails (specified h cells) c ≡ true
     → (n : ℕ) → n ≡ s .first + 1 → (mid last : List ℕ) → mid ≡ marked (executed (specified h cells) (take n (c .inputs))) out
-    → last ≡ edit (λ cell old. swept old) 0 cellsMost mid → last ≡ narrowed (specified h cells) c out
+    → last ≡ sweptAll mid → last ≡ narrowed (specified h cells) c out
 narrows-out h cells t c k out bits s e bad n en mid last em el = el ∙ rw (em, en, e) (narrows h cells t c k out bits bad)
 
 -- a passing case leaves all
@@ -127,7 +126,7 @@ unfolding narrowed
 narrows-none M c out good = rw good (edit-kept 0 cellsMost out)
 
 -- all 256 ones are bits
-pub ones-bits : (out ones : List ℕ) → cellsMost ≤ length out → ones ≡ edit (λ cell old. 1) 0 cellsMost out → Bits ones
+pub ones-bits : (out ones : List ℕ) → cellsMost ≤ length out → ones ≡ spread 1 out → Bits ones
 ones-bits out ones room e =
     record {
       room = rw (e, length-edit (λ cell old. 1) 0 cellsMost out) room;
@@ -140,7 +139,7 @@ ones-bits out ones room e =
         omega (arith, rw zero-add at at)
 
 -- of all 256 ones a failing case leaves its conflict set
-pub conflict-of-ones : (M : Machine) (c : Case) (out ones : List ℕ) → cellsMost ≤ length out → ones ≡ edit (λ cell old. 1) 0 cellsMost out
+pub conflict-of-ones : (M : Machine) (c : Case) (out ones : List ℕ) → cellsMost ≤ length out → ones ≡ spread 1 out
     → fails M c ≡ true → narrowed M c ones ≡ conflictBytes M c out
 unfolding narrowed conflictBytes
 conflict-of-ones M c out ones room e bad =
@@ -155,6 +154,6 @@ conflict-of-ones M c out ones room e bad =
     go false = refl
 
 -- a passing case's conflict set is empty
-pub conflict-none : (M : Machine) (c : Case) (out : List ℕ) → fails M c ≡ false → edit (λ cell old. 0) 0 cellsMost out ≡ conflictBytes M c out
+pub conflict-none : (M : Machine) (c : Case) (out : List ℕ) → fails M c ≡ false → spread 0 out ≡ conflictBytes M c out
 unfolding conflictBytes conflicts
 conflict-none M c out good = rw good

@@ -1,7 +1,11 @@
 -- Each public function's contract allows one answer only, said of the contract that the check generates.
 -- Assumes nothing.
-use mathlib.Core.Path.{refl, sym, _∙_}
+use mathlib.Core.Path.{_≡_, refl, sym, _∙_}
+use mathlib.Core.List.{List}
+use Prim.Native.Nat.{ℕ}
 use Rattle.shapes.specs.OneAnswer.{OneAnswer}
+use Rattle.house.specs.Refusal.{wrote}
+use Rattle.house.specs.declared.refusal.Answer.{Answer}
 use Rattle.house.proofs.refusal.Refusal.number.Kinds as refusal-number-kinds
 use Rattle.house.proofs.refusal.Refusal.number.Reads as refusal-number-reads
 use Rattle.house.proofs.refusal.Refusal.carried.Kinds as refusal-carried-kinds
@@ -22,6 +26,10 @@ use Rattle.house.proofs.cases.check_case.Kinds as check-case-kinds
 use Rattle.house.proofs.cases.check_case.Reads as check-case-reads
 use Rattle.house.proofs.cases.check_cases.Kinds as check-cases-kinds
 use Rattle.house.proofs.cases.check_cases.Reads as check-cases-reads
+
+-- what was written has one answer and leaves one list
+pub wrote-one : {r s : Answer} {l k : List ℕ} → wrote r l ≡ wrote s k → (r ≡ s) × (l ≡ k)
+wrote-one e = (cc, cc)
 
 refusal-number-one : OneAnswer refusal-number-kinds.ps refusal-number-kinds.r refusal-number-reads.Post
 refusal-number-one κs a z z′ ws ws′ p q = (p ∙ sym q, refl)

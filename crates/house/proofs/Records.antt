@@ -89,6 +89,17 @@ length-bytes c = let e = length-append (c .inputs) (c .outputs) in omega arith
 pub case-after : (at : ℕ) (c : Case) → length (c .outputs) ≡ length (c .inputs) → at + 1 + 2 * length (c .inputs) ≡ placeAfter at (caseBytes c)
 case-after at c e = omega (arith, length-bytes c)
 
+-- the bytes of cases before others are the bytes of both, one after the other
+pub rest-append : (a b : List Case) → restOf (a ++ b) ≡ restOf a ++ restOf b
+unfolding restOf
+rest-append [] b = refl
+rest-append (c ∷ a) b = rw (rest-append a b, append-assoc)
+
+-- a record is three bytes and its cases'
+pub record-size : (cs : List Case) → length (recordFile cs) ≡ restAt + length (restOf cs)
+unfolding recordFile fileOf fileHead
+record-size cs = omega arith
+
 -- the length byte stored, then the inputs written and the outputs after them: the case is written
 pub case-written : (out one two : List ℕ) (at : ℕ) (c : Case) → one ≡ filled (set out at (length (c .inputs))) (at + 1) (c .inputs)
     → two ≡ filled one (at + 1 + length (c .inputs)) (c .outputs) → two ≡ filled out at (caseBytes c)
@@ -115,9 +126,9 @@ module _ (file : List ℕ) where
   read-counted e d = rw (ruling-join-fine (fileRules version file) _ e, d)
 
 -- an answer that refuses says what the rules refuse with,
-or-refused : (v : Ruling Refusal) (m : ℕ) {r : Refusal} → recordOr v m ≡ Refused r → v ≡ refused r
-or-refused fine m e = cc
-or-refused (refused q) m e = cc
+record-or-refused : (v : Ruling Refusal) (m : ℕ) {r : Refusal} → recordOr v m ≡ Refused r → v ≡ refused r
+record-or-refused fine m e = cc
+record-or-refused (refused q) m e = cc
 
 -- and one of a count says that no rule refuses
 or-counted : (v : Ruling Refusal) (m : ℕ) {n : ℕ} → recordOr v m ≡ Record n → (v ≡ fine) × (n ≡ m)
@@ -128,7 +139,7 @@ module _ (file : List ℕ) where
   -- a record that is refused is refused by its rules
   pub rules-refuse : {r : Refusal} → recordRead file ≡ Refused r → ruling (recordRules file) ≡ refused r
   unfolding recordRead
-  rules-refuse e = or-refused _ _ e
+  rules-refuse e = record-or-refused _ _ e
 
   -- one that is taken is refused by none, and what is answered is the count of its cases
   pub rules-pass : {n : ℕ} → recordRead file ≡ Record n → (ruling (recordRules file) ≡ fine) × (n ≡ countOf (countIn file))

@@ -123,9 +123,9 @@ unfolding filled tableHeadBytes fileHead
 head-written out h e c = rw (e, c) (filled-append out 0 (fileHead version (3 + 2 * cellCount h)) (h .states ∷ h .inputs ∷ h .outputs ∷ []))
 
 -- a reading that refuses says what the rules refuse with,
-or-refused : (v : Ruling Refusal) (h : Head) {r : Refusal} → tableOr v h ≡ Refused r → v ≡ refused r
-or-refused fine h e = cc
-or-refused (refused q) h e = cc
+table-or-refused : (v : Ruling Refusal) (h : Head) {r : Refusal} → tableOr v h ≡ Refused r → v ≡ refused r
+table-or-refused fine h e = cc
+table-or-refused (refused q) h e = cc
 
 -- and one that answers a head says that no rule refuses
 or-taken : (v : Ruling Refusal) (g : Head) {h : Head} → tableOr v g ≡ Table h → (v ≡ fine) × (h ≡ g)
@@ -136,7 +136,7 @@ or-taken (refused q) g e = (cc, cc)
 pub table-refused : (file : List ℕ) (r : Refusal) → (tableRead file ≡ Refused r) ↔ RefusedBy (tableRules file) r
 unfolding tableRead
 table-refused file r = (
-  λ e. refused-when (tableRules file) r .0 (or-refused _ _ e),
+  λ e. refused-when (tableRules file) r .0 (table-or-refused _ _ e),
   λ h. let e = refused-when (tableRules file) r .1 h in rw e,
 )
 
@@ -181,9 +181,9 @@ table-known file h e =
     rw (t .1) (known, l)
 
 -- and the rules for every file do not refuse it
-table-fine : (file : List ℕ) (h : Head) → tableRead file ≡ Table h → ruling (fileRules version file) ≡ fine
+table-file-fine : (file : List ℕ) (h : Head) → tableRead file ≡ Table h → ruling (fileRules version file) ≡ fine
 unfolding tableRules
-table-fine file h e = ruling-joined (fileRules version file) _ (table-rules-pass file h e .0) .0
+table-file-fine file h e = ruling-joined (fileRules version file) _ (table-rules-pass file h e .0) .0
 
 -- a table file is the file made of the three numbers and the cells
 file-of-table : (h : Head) (cells : List ℕ) → 2 * cellCount h ≤ length cells
@@ -222,4 +222,4 @@ table-writes-back file h b e =
     let l = k .1 in
     let all : take (2 * cellCount h) (cellsIn file) ≡ cellsIn file = take-all (2 * cellCount h) (cellsIn file) (rw length-drop (omega arith)) in
     rw (file-of-table h (cellsIn file) (k .0 .room), all, table-taken file h e .1, ← drop-three file 3 (omega arith))
-    (file-of-rest version file b (table-fine file h e))
+    (file-of-rest version file b (table-file-fine file h e))

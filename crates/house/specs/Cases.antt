@@ -8,7 +8,7 @@ use lib.ListN.{length, getD, take, drop}
 use Rattle.shapes.specs.Refusals.{Rule, when, Ruling, fine, refused, ruling}
 use Rattle.machine.specs.Limits.{stepsMost}
 use Rattle.machine.specs.Head.{within}
-use Rattle.machine.specs.Case.{Case, goodCase}
+use Rattle.machine.specs.Case.{Case, goodCase, asCase}
 use Rattle.machine.specs.declared.head.Head.{Head}
 use Rattle.house.specs.File.{version, restAt, fileRules, fileOf}
 use Rattle.house.specs.declared.refusal.Refusal.{Refusal}
@@ -61,7 +61,7 @@ caseFits file at = within (stepsAt file at) stepsMost && leb (caseEnd file at) (
 -- the case that stands at a place
 unfoldable pub caseAt : List ℕ → ℕ → Case
 caseAt file at =
-    record { inputs = take (stepsAt file at) (drop (at + 1) file); outputs = take (stepsAt file at) (drop (at + 1 + stepsAt file at) file) }
+    asCase (take (stepsAt file at) (drop (at + 1) file)) (take (stepsAt file at) (drop (at + 1 + stepsAt file at) file))
 
 -- how many cases stand from a place to the end, n before it and at most `left` more; broken where a case does not fit or more are left
 unfoldable pub countFrom : List ℕ → ℕ → ℕ → ℕ → Counted

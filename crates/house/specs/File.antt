@@ -1,5 +1,5 @@
 -- What every house file begins with: "All multi-byte numbers are big-endian. Byte 0 is the version, 1. Bytes 1 and 2 are the length of the rest."
-use Prim.Native.Nat.{ℕ, _+_, _-_, _*_, _/_, _%_}
+use Prim.Native.Nat.{ℕ, _+_, _-_, _*_, _/_, _%_, min}
 use mathlib.Core.List.{List, [], _∷_, _++_}
 use mathlib.Core.Bool.{not}
 use lib.Dec.{eqb, ltb}
@@ -30,6 +30,10 @@ fileRules v file =
 -- the first three bytes of a file of a version, before a rest of so many
 unfoldable pub fileHead : ℕ → ℕ → List ℕ
 fileHead v n = v ∷ n / 256 ∷ n % 256 ∷ []
+
+-- where the first of files that stand one after the other ends: where its length field says, or with the bytes if that is earlier
+abbrev pub firstEnd : List ℕ → ℕ
+firstEnd bytes = min (restAt + twoBytes bytes 1) (length bytes)
 
 -- the file of a version with a rest
 unfoldable pub fileOf : ℕ → List ℕ → List ℕ

@@ -8,7 +8,7 @@ ghost use lib.ListN.{length};
 ghost use Rattle.shapes.specs.Refusals.{ruling};
 ghost use Rattle.shapes.specs.Edit.{filled};
 ghost use Rattle.house.specs.Refusal.{checked};
-ghost use Rattle.house.specs.File.{fileRules, fileHead};
+ghost use Rattle.house.specs.File.{restAt, fileRules, fileHead};
 
 // The version of both files.
 pub const VERSION: usize = 1;
@@ -37,7 +37,7 @@ pub fn check_file(file: &[u8], version: usize) -> Checked
 
 // Writes the first three bytes of a file of a version with so long a rest.
 pub fn put_file_head(out: &mut [u8], version: usize, rest: usize)
-    requires { ⌜ 3 ≤ length (now out) ⌝ }
+    requires { ⌜ restAt ≤ length (now out) ⌝ }
     requires { ⌜ version < 256 ⌝ }
     requires { ⌜ rest < 65536 ⌝ }
     ensures { λ _. ⌜ now (out .exit) ≡ filled (now (out .entry)) 0 (fileHead version rest) ⌝ }

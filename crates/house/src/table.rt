@@ -15,7 +15,7 @@ ghost use Rattle.shapes.specs.Edit.{filled};
 ghost use Rattle.shapes.specs.Refusals.{fine, ruling};
 ghost use Rattle.house.specs.File.{version, fileRules};
 ghost use Rattle.machine.specs.Head.{HeadIn};
-ghost use Rattle.house.specs.Table.{tableRead, tableHeadBytes};
+ghost use Rattle.house.specs.Table.{fileCellsAt, tableRead, tableHeadBytes};
 
 // Where the cells of a table file stand.
 pub const FILE_CELLS_AT: usize = 6;
@@ -63,7 +63,7 @@ fn read_checked(file: &[u8]) -> TableFile
 // Writes what a table file has before its cells.
 pub fn put_table_head(out: &mut [u8], head: Head)
     requires { ⌜ HeadIn head ⌝ }
-    requires { ⌜ 6 ≤ length (now out) ⌝ }
+    requires { ⌜ fileCellsAt ≤ length (now out) ⌝ }
     ensures { λ _. ⌜ now (out .exit) ≡ filled (now (out .entry)) 0 (tableHeadBytes head) ⌝ }
 {
     put_file_head(out, VERSION, 3 + 2 * head.cells());

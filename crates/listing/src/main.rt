@@ -17,10 +17,10 @@ use session::calls::load;
 use session::calls::start;
 use shapes::byte;
 ghost use mathlib.Core.Path.{_≡_};
-ghost use Prim.Native.Nat.{ℕ, _+_, _≤_, _<_, min};
+ghost use Prim.Native.Nat.{ℕ, _≤_, _<_, min};
 ghost use lib.ListN.{length, getD};
 ghost use Rattle.machine.specs.Head.{HeadIn, numbers};
-ghost use Rattle.house.specs.File.{restAt, twoBytes};
+ghost use Rattle.house.specs.File.{firstEnd};
 ghost use Rattle.memory.specs.Layout.{sessionSize, talliesSize, headOf};
 
 // The most bytes that an input has.
@@ -138,7 +138,7 @@ fn show_list(session: &[u8], tallies: &[u16], numbers: &mut [u16]) {
 
 // Where the table file ends: where its length field says, or with the input if that is earlier.
 fn table_end(input: &[u8]) -> usize
-    ensures { λ r. ⌜ r ≡ min (restAt + twoBytes (now (input .entry)) 1) (length (now (input .entry))) ⌝ }
+    ensures { λ r. ⌜ r ≡ firstEnd (now (input .entry)) ⌝ }
 {
     let count = input.len();
     if count < REST {

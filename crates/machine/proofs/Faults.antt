@@ -20,6 +20,7 @@ use Rattle.machine.specs.declared.fault.Fault.{Fault}
 use Rattle.machine.specs.declared.fault.Kind.{Kind}
 use Rattle.machine.specs.declared.fault.Kind.the-variants.{Output, Transfer}
 use Rattle.machine.specs.declared.fault.MadeFault.the-variants.{Made, Nothing}
+use Rattle.machine.specs.Replay.{changeAt}
 use Rattle.machine.proofs.Numbers.{number-cell}
 use Rattle.machine.proofs.Moves.{completed-in}
 
@@ -105,9 +106,9 @@ under-same M d e = ap (λ (g : ℕ → Move). record { inputs = M .inputs; does 
 
 -- as is one that puts at cell 0 what the table has there
 pub first-cell-same : (h : Head) (cells : List ℕ) (to : Move) → to ≡ completed cells initial 0
-    → under (specified h cells) (record { cell = 0; to = to }) ≡ specified h cells
+    → under (specified h cells) (changeAt 0 to) ≡ specified h cells
 unfolding specified
-first-cell-same h cells to e = under-same (specified h cells) (record { cell = 0; to = to }) (rw zero-div e)
+first-cell-same h cells to e = under-same (specified h cells) (changeAt 0 to) (rw zero-div e)
 
 -- "A number whose value equals the cell's own leaves the machine the same"
 pub changed-same : (h : Head) (cells : List ℕ) (f : ℕ)

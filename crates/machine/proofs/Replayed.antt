@@ -16,7 +16,7 @@ use Rattle.machine.specs.Head.{HeadIn}
 use Rattle.machine.specs.Machine.{Machine, cellNumber}
 use Rattle.machine.specs.Case.{CaseIn}
 use Rattle.machine.specs.Run.{run, agrees, differing, firstDiffering, expected, symptomsOf, reproduces}
-use Rattle.machine.specs.Replay.{fresh, passed, failed, stepped, taken, replayed, ReplayIn}
+use Rattle.machine.specs.Replay.{fresh, passed, failed, stepped, taken, replayed, ReplayIn, NextStep}
 use Rattle.machine.specs.declared.head.Head.{Head}
 use Rattle.machine.specs.declared.cell.Move.{Move}
 use Rattle.machine.specs.declared.replay.Replay.{Replay}
@@ -97,11 +97,11 @@ taken-is M r to i y x e step = rw (← e) step
 
 -- a step to a state leaves a replay in a state, one step further
 pub stepped-in : (h : Head) (r : Replay) (to : Move) (y : ℕ) (x : Replay) → ReplayIn h r → to .next < h .states → x ≡ stepped r to y
-    → (ReplayIn h x) × (x .step ≡ r .step + 1)
+    → (ReplayIn h x) × NextStep r x
 unfolding stepped passed failed
 stepped-in h r to y x known l e = rw e (go (agrees y (to .output)))
   where
-    go : (b : Bool) → (ReplayIn h (cond b (passed r to) (failed r to))) × (cond b (passed r to) (failed r to) .step ≡ r .step + 1)
+    go : (b : Bool) → (ReplayIn h (cond b (passed r to) (failed r to))) × NextStep r (cond b (passed r to) (failed r to))
     go true = (record { state-in = l; few-symptoms = omega (arith, known .few-symptoms) }, refl)
     go false = (record { state-in = l; few-symptoms = omega (arith, known .few-symptoms) }, refl)
 
@@ -126,7 +126,7 @@ begins h M is ys r head e =
 
 -- and goes on so
 pub goes-on : (h : Head) (M : Machine) (is ys : List ℕ) (t i y : ℕ) (r x : Replay) → Underway h M is ys t r → t < length is → length ys ≡ length is
-    → i ≡ getD is t 0 → y ≡ getD ys t 0 → x ≡ taken M r i y → (ReplayIn h x) × (x .step ≡ r .step + 1) → Underway h M is ys (t + 1) x
+    → i ≡ getD is t 0 → y ≡ getD ys t 0 → x ≡ taken M r i y → (ReplayIn h x) × NextStep r x → Underway h M is ys (t + 1) x
 goes-on h M is ys t i y r x u l even ei ey e after =
     record {
       known = after .0;

@@ -48,10 +48,6 @@ altered Transfer v to = record { next = v; output = to .output }
 unfoldable pub changeOf : Machine → Fault → Change
 changeOf M f = record { cell = f .cell; to = altered (f .kind) (f .value) (M .does (f .cell)) }
 
--- a cell, and the move to make there
-abbrev pub changeAt : ℕ → Move → Change
-changeAt c to = record { cell = c; to = to }
-
 -- the machine with one cell's move changed, at every execution of the cell
 unfoldable pub under : Machine → Change → Machine
 under M d = record { inputs = M .inputs; does = λ c. cond (eqb c (d .cell)) (d .to) (M .does c) }

@@ -1,4 +1,5 @@
--- The replay of a case: state, step reached and symptoms so far, one step after the other (document 01, "Machine").
+-- For the loops that replay a case: a replay is "state, step reached and symptoms so far" (document 01, "Machine"), one step after the other.
+-- What a case shows is said of the run (`Run.antt`); no call's answer speaks of these.
 use Prim.Native.Nat.{ℕ, _+_, _<_, _≤_}
 use mathlib.Core.Path.{_≡_}
 use mathlib.Core.List.{List, [], _∷_}
@@ -9,6 +10,7 @@ use Rattle.machine.specs.Machine.{Machine, initial, cellNumber}
 use Rattle.machine.specs.Run.{agrees}
 use Rattle.machine.specs.declared.head.Head.{Head}
 use Rattle.machine.specs.declared.cell.Move.{Move}
+use Rattle.machine.specs.declared.fault.Change.{Change}
 use Rattle.machine.specs.declared.replay.Replay.{Replay}
 
 -- before the first step: the initial state, no symptom
@@ -37,6 +39,10 @@ unfoldable pub replayed : Machine → Replay → List ℕ → List ℕ → Repla
 replayed M r [] ys = r
 replayed M r (i ∷ is) [] = r
 replayed M r (i ∷ is) (y ∷ ys) = replayed M (taken M r i y) is ys
+
+-- a cell, and the move to make there
+abbrev pub changeAt : ℕ → Move → Change
+changeAt c to = record { cell = c; to = to }
 
 -- one replay stands a step after another
 abbrev pub NextStep : Replay → Replay → Type 0

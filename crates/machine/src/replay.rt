@@ -15,11 +15,11 @@ ghost use Rattle.machine.specs.Limits.{stepsMost};
 ghost use Rattle.machine.specs.Head.{cellCount, numbers};
 ghost use Rattle.machine.specs.Cell.{TableIn};
 ghost use Rattle.machine.specs.Machine.{cellNumber, specified};
-ghost use Rattle.machine.specs.Fault.{changeAt, under, changed};
+ghost use Rattle.machine.specs.Fault.{under, changed};
 ghost use Rattle.machine.specs.Case.{CaseIn, InputsIn};
 ghost use Rattle.machine.specs.Run.{agrees, executed, symptomsOf, reproduces};
 ghost use Rattle.machine.specs.Marks.{marked};
-ghost use Rattle.machine.specs.Replay.{fresh, stepped, taken, NextStep, ReplayIn};
+ghost use Rattle.machine.specs.Replay.{changeAt, fresh, stepped, taken, NextStep, ReplayIn};
 
 // The state in which a case begins.
 const INITIAL: usize = 0;

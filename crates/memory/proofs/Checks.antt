@@ -2,12 +2,12 @@
 -- Assumes nothing.
 use Prim.Native.Nat.{ℕ, _+_, _-_, _*_, _≤_, _<_}
 use mathlib.Core.Path.{_≡_, refl, sym, _∙_}
-use mathlib.Core.Bool.{Bool, true, false, cond, not}
+use mathlib.Core.Bool.{Bool, true, false, not}
 use mathlib.Core.List.{List}
 use borrow.Author.Tests.{ltb-false, le-leb, lt-leb, eq-eqb, ne-eqb}
 use native.Mathlib.Numerals.{add-one}
 use native.Mathlib.Omega.{arith}
-use lib.Dec.{eqb, ltb}
+use lib.Dec.{eqb}
 use lib.ListN.{length, getD, take, drop, length-append, length-take, length-drop}
 use mir.Val.{boolByte}
 use Rattle.shapes.specs.First.{zeros}
@@ -28,8 +28,9 @@ use Rattle.house.specs.declared.refusal.Refusal.{Refusal}
 use Rattle.house.specs.declared.refusal.Refusal.the-variants.{Damaged}
 use Rattle.house.proofs.Forms.{checked-fine, checked-refused}
 use Rattle.memory.specs.Layout.{sessionCellsAt, cellsRoom, placesAt, sessionSize, talliesSize, headOf, cellsOf, placeAt, stepsOf, isHeld, caseOf, caseIf, heldTo, cases}
-use Rattle.memory.specs.Form.{goodTable, zerosAfter, goodPlace, tallyMost, wellFormed, roomRules, formRules}
+use Rattle.memory.specs.Form.{goodTable, zerosAfter, goodPlace, tallyMost, wellFormed, roomRules, formRules, mostFor}
 use Rattle.memory.specs.declared.layout.Place.{Place}
+use Rattle.memory.specs.Loops.{readPlace}
 
 -- a loop's turn: a case more is counted where the place holds one
 pub held-turn : (s : List ℕ) (p x n : ℕ) → x ≡ stepsOf s p → n ≡ length (heldTo s p) → n + boolByte (not (eqb x 0)) ≡ length (heldTo s (p + 1))
@@ -45,7 +46,7 @@ pub byte-few : (b : Bool) → boolByte b ≤ 1
 byte-few true = omega arith
 byte-few false = omega arith
 
-module _ (s : List ℕ) (p : ℕ) {here : Place} (e : here ≡ record { at = placeAt p; steps = stepsOf s p }) where
+module _ (s : List ℕ) (p : ℕ) {here : Place} (e : here ≡ readPlace s p) where
   -- a place that was read: where it stands, and its length byte
   pub place-read : (here .at ≡ placeAt p) × (here .steps ≡ stepsOf s p)
   place-read = (rw e, rw e)
@@ -142,7 +143,7 @@ module _ (s : List ℕ) where
   table-head e = head-in _ (and-true _ _ e .0)
 
   -- the most of a tally, as the code finds it
-  pub most-found : (f : ℕ) {n c x : ℕ} → n ≡ numbers (headOf s) → c ≡ length (cases s) → x ≡ cond (ltb f n) c 0 → x ≡ tallyMost s f
+  pub most-found : (f : ℕ) {n c x : ℕ} → n ≡ numbers (headOf s) → c ≡ length (cases s) → x ≡ mostFor f n c → x ≡ tallyMost s f
   unfolding tallyMost
   most-found f a b d = rw (← b, ← a) d
 

@@ -9,7 +9,6 @@ use lib.Dec.{leb}
 use lib.ListN.{length, getD, drop, length-append, length-drop}
 use lib.Seq.{length-take-le}
 use borrow.Author.Tests.{eqb-true, leb-true, le-leb, not-true, not-false}
-use Rattle.shapes.specs.First.{allTo}
 use Rattle.shapes.specs.Keep.{every}
 use Rattle.shapes.proofs.First.{first-holds, first-before, all-from, all-at}
 use Rattle.shapes.proofs.Tests.{and-true}
@@ -19,8 +18,8 @@ use Rattle.machine.specs.Cell.{TableIn}
 use Rattle.machine.specs.Case.{goodCase, CaseIn, allGood}
 use Rattle.machine.proofs.Sound.{cells-few}
 use Rattle.machine.proofs.Cases.{head-in, case-in}
-use Rattle.memory.specs.Layout.{placesMost, sessionCellsAt, cellsRoom, sessionSize, talliesSize, headOf, cellsOf, stepsOf, isHeld, caseOf, caseIf, heldTo, cases, freePlace}
-use Rattle.memory.specs.Form.{goodTable, zerosAfter, goodPlace, tallyMost, goodTallies, wellFormed, Formed}
+use Rattle.memory.specs.Layout.{placesMost, sessionCellsAt, cellsRoom, sessionSize, talliesSize, headOf, cellsOf, stepsOf, isHeld, caseOf, caseIf, heldTo, cases, freePlace, casesAt}
+use Rattle.memory.specs.Form.{goodTable, zerosAfter, goodPlace, tallyMost, goodTallies, wellFormed, Formed, goodPlaces}
 
 -- the cells of a session are as many bytes as they have room
 cells-length : (s : List ℕ) → sessionSize ≤ length s → length (cellsOf s) ≡ cellsRoom
@@ -42,18 +41,18 @@ table-good s room e =
 
 -- the form's three parts
 form-parts : (s t : List ℕ) → wellFormed s t ≡ true
-    → (goodTable s ≡ true) × (allTo (goodPlace s) placesMost ≡ true) × (goodTallies s t ≡ true)
+    → (goodTable s ≡ true) × (goodPlaces s ≡ true) × (goodTallies s t ≡ true)
 unfolding wellFormed
 form-parts s t e =
-    let a = and-true (goodTable s) (allTo (goodPlace s) placesMost && goodTallies s t) e in
-    let b = and-true (allTo (goodPlace s) placesMost) (goodTallies s t) (a .1) in (a .0, b .0, b .1)
+    let a = and-true (goodTable s) (goodPlaces s && goodTallies s t) e in
+    let b = and-true (goodPlaces s) (goodTallies s t) (a .1) in (a .0, b .0, b .1)
 
 -- in a well-formed session the table is good, ..
 pub formed-table : (s t : List ℕ) → Formed s t → goodTable s ≡ true
 formed-table s t k = form-parts s t (k .form) .0
 
 -- .. so are all the places, ..
-pub formed-places : (s t : List ℕ) → Formed s t → allTo (goodPlace s) placesMost ≡ true
+pub formed-places : (s t : List ℕ) → Formed s t → goodPlaces s ≡ true
 formed-places s t k = form-parts s t (k .form) .1
 
 -- .. each of them, ..
@@ -122,7 +121,7 @@ unfolding cases
 cases-good s t f = held-good s placesMost (formed-place s t f)
 
 -- the count of the cases held below the next place
-held-count : (s : List ℕ) (n : ℕ) → length (heldTo s (suc n)) ≡ length (heldTo s n) + length (caseIf (isHeld s n) (caseOf s n))
+held-count : (s : List ℕ) (n : ℕ) → length (heldTo s (suc n)) ≡ length (heldTo s n) + length (casesAt s n)
 unfolding heldTo
 held-count s n = length-append (heldTo s n) _
 

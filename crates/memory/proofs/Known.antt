@@ -12,7 +12,7 @@ use Rattle.shapes.specs.Refusals.{Ruling, fine, refused, ruling, Rule}
 use Rattle.shapes.proofs.Refusals.{ruling-joined, fine-when, ruling-join-refused, ruling-join-fine}
 use Rattle.machine.specs.Limits.{stepsMost}
 use Rattle.machine.specs.Cell.{TableIn}
-use Rattle.machine.specs.Case.{Case, goodCase, CaseIn}
+use Rattle.machine.specs.Case.{Case, goodCase, CaseIn, asCase}
 use Rattle.machine.specs.declared.head.Head.{Head}
 use Rattle.house.specs.Refusal.{checked}
 use Rattle.house.specs.declared.refusal.Refusal.{Refusal}
@@ -22,6 +22,7 @@ use Rattle.house.proofs.Forms.{checked-fine, checked-refused}
 use Rattle.memory.specs.Layout.{placesMost, sessionSize, headOf, cellsOf, placeAt, stepsOf, isHeld, caseOf, talliesSize}
 use Rattle.memory.specs.Form.{goodTable, goodPlace, Formed, roomRules, formRules, isSlot, slotRules}
 use Rattle.memory.specs.declared.layout.Place.{Place}
+use Rattle.memory.specs.Loops.{readPlace}
 use Rattle.memory.proofs.Checks.{room-known, place-read, free-here, held-here}
 use Rattle.memory.proofs.Formed.{formed-table, formed-place, table-good, place-few, place-case}
 use Rattle.memory.proofs.Held.{slot-inside, slot-held}
@@ -73,12 +74,10 @@ case-runs s p room table good held same e = (session-table s same room table, rw
 -- the two parts of a session that the code takes as the case of a place that it read
 abbrev pub caseRead : List ℕ → Place → Case
 caseRead s here =
-    record {
-      inputs = take (here .at + 1 + here .steps - (here .at + 1)) (drop (here .at + 1) s);
-      outputs = take (here .at + 1 + stepsMost + here .steps - (here .at + 1 + stepsMost)) (drop (here .at + 1 + stepsMost) s);
-    }
+    asCase (take (here .at + 1 + here .steps - (here .at + 1)) (drop (here .at + 1) s))
+    (take (here .at + 1 + stepsMost + here .steps - (here .at + 1 + stepsMost)) (drop (here .at + 1 + stepsMost) s))
 
-module _ (s : List ℕ) (p : ℕ) {here : Place} (e : here ≡ record { at = placeAt p; steps = stepsOf s p }) where
+module _ (s : List ℕ) (p : ℕ) {here : Place} (e : here ≡ readPlace s p) where
   -- a place that was read is held where its length byte is not 0,
   pub held-read : (here .steps ≡ 0 → ⊥) → isHeld s p ≡ true
   held-read z = not-false _ (held-here s p e z)
@@ -121,7 +120,7 @@ module _ (s t : List ℕ) (p : ℕ) (k : Formed s t × (isSlot s p ≡ true)) wh
   slot-good = formed-place s t (k .0) p (slot-room .1)
 
   -- where it was read it ends inside the session,
-  pub slot-ends : {here : Place} → here ≡ record { at = placeAt p; steps = stepsOf s p }
+  pub slot-ends : {here : Place} → here ≡ readPlace s p
       → (here .at + 1 + stepsMost + here .steps ≤ sessionSize) × (sessionSize ≤ length s)
   slot-ends e =
       let w = place-within s p e slot-good in

@@ -19,7 +19,7 @@ use Rattle.machine.specs.Head.{goodHead, cellCount}
 use Rattle.machine.specs.Cell.{firstBad}
 use Rattle.machine.specs.Case.{Case, goodCase, noCase}
 use Rattle.machine.specs.declared.head.Head.{Head}
-use Rattle.memory.specs.Layout.{placesMost, sessionCellsAt, cellsRoom, placesAt, placeSize, sessionSize, headOf, cellsOf, placeAt, stepsOf, isHeld, caseOf, caseIf, heldTo, cases, placeByte}
+use Rattle.memory.specs.Layout.{placesMost, sessionCellsAt, cellsRoom, placesAt, placeSize, sessionSize, headOf, cellsOf, placeAt, stepsOf, isHeld, caseOf, caseIf, heldTo, cases, placeByte, casesAt}
 use Rattle.memory.specs.Form.{goodTable, zerosAfter, goodPlace}
 use Rattle.memory.specs.Store.{placed}
 
@@ -264,7 +264,7 @@ place-cleared s room p inside = good-placed s room p inside noCase no-fits refl
 -- the cases of the n places from place p on
 heldFrom : List ℕ → ℕ → ℕ → List Case
 heldFrom s p zero = []
-heldFrom s p (suc n) = heldFrom s p n ++ caseIf (isHeld s (p + n)) (caseOf s (p + n))
+heldFrom s p (suc n) = heldFrom s p n ++ casesAt s (p + n)
 
 -- the cases below a place, and those from it on
 held-split : (s : List ℕ) (p n : ℕ) → heldTo s (p + n) ≡ heldTo s p ++ heldFrom s p n
@@ -273,13 +273,13 @@ held-split s p zero = rw (add-zero, append-nil)
 held-split s p (suc n) = rw (add-suc p n, held-split s p n, append-assoc)
 
 -- the cases below a place, the one in it, those above
-held-around : (s : List ℕ) (p n : ℕ) → heldTo s (suc p + n) ≡ heldTo s p ++ (caseIf (isHeld s p) (caseOf s p) ++ heldFrom s (suc p) n)
+held-around : (s : List ℕ) (p n : ℕ) → heldTo s (suc p + n) ≡ heldTo s p ++ (casesAt s p ++ heldFrom s (suc p) n)
 unfolding heldTo
-held-around s p n = held-split s (suc p) n ∙ append-assoc (heldTo s p) (caseIf (isHeld s p) (caseOf s p)) (heldFrom s (suc p) n)
+held-around s p n = held-split s (suc p) n ∙ append-assoc (heldTo s p) (casesAt s p) (heldFrom s (suc p) n)
 
 -- so all cases are split around a place
 cases-split : (s : List ℕ) (p : ℕ) → p < placesMost
-    → cases s ≡ heldTo s p ++ (caseIf (isHeld s p) (caseOf s p) ++ heldFrom s (suc p) (placesMost - suc p))
+    → cases s ≡ heldTo s p ++ (casesAt s p ++ heldFrom s (suc p) (placesMost - suc p))
 unfolding cases
 cases-split s p l =
     let e : placesMost ≡ suc p + (placesMost - suc p) = omega arith in
@@ -308,7 +308,7 @@ above-same s t p (suc n) steps case =
 
 -- the cases held before and after a store: the same below the place and above it
 pub cases-around : (s : List ℕ) → sessionSize ≤ length s → ((q : ℕ) → q < placesMost → stepsOf s q ≤ stepsMost) → (p : ℕ) → p < placesMost
-    → (below : List Case) × (above : List Case) × (cases s ≡ below ++ (caseIf (isHeld s p) (caseOf s p) ++ above))
+    → (below : List Case) × (above : List Case) × (cases s ≡ below ++ (casesAt s p ++ above))
     × ((c : Case) → Fits c → cases (placed s p c) ≡ below ++ (caseIf (not (eqb (length (c .inputs)) 0)) c ++ above))
 cases-around s room few p inside = (heldTo s p, heldFrom s (suc p) (placesMost - suc p), cases-split s p inside, after)
   where

@@ -4,13 +4,14 @@ use mathlib.Core.Path.{_≡_, sym}
 use mathlib.Core.List.{List}
 use native.Mathlib.Nat.{add-zero}
 use native.Mathlib.Omega.{arith}
-use lib.ListN.{length, getD, set}
+use lib.ListN.{length, set}
 use Rattle.shapes.specs.Edit.{edit}
 use Rattle.shapes.proofs.Edit.{edit-same, edit-compose}
 use Rattle.machine.specs.Limits.{stepsMost}
 use Rattle.machine.specs.Case.{Case}
 use Rattle.memory.specs.Layout.{placeSize, placeAt, placeByte}
 use Rattle.memory.specs.Store.{placed}
+use Rattle.memory.specs.Loops.{stepsStored}
 use Rattle.memory.proofs.Stored.{byte-input, byte-output}
 
 -- the first byte of a place is the count of the inputs
@@ -20,27 +21,26 @@ count-stored c at l = rw add-zero
 
 -- the count stored, then the inputs, then the outputs, is a whole place stored
 case-stored : (c : Case) (at : ℕ) (l : List ℕ)
-    → edit (λ i old. getD (c .outputs) i 0) (at + 1 + stepsMost) stepsMost
-    (edit (λ i old. getD (c .inputs) i 0) (at + 1) stepsMost (set l at (length (c .inputs))))
+    → stepsStored (c .outputs) (at + 1 + stepsMost) (stepsStored (c .inputs) (at + 1) (set l at (length (c .inputs))))
     ≡ edit (λ i old. placeByte c i) at placeSize l
 case-stored c at l = rw (count-stored, ins, edit-compose byte at 1 stepsMost l, past, outs, edit-compose byte at (1 + stepsMost) stepsMost l)
   where
     byte : ℕ → ℕ → ℕ
     byte i old = placeByte c i
 
-    ins : edit (λ i old. getD (c .inputs) i 0) (at + 1) stepsMost (edit byte at 1 l) ≡ edit (λ i. byte (1 + i)) (at + 1) stepsMost (edit byte at 1 l)
+    ins : stepsStored (c .inputs) (at + 1) (edit byte at 1 l) ≡ edit (λ i. byte (1 + i)) (at + 1) stepsMost (edit byte at 1 l)
     ins = edit-same _ _ _ _ _ λ i x h. sym (byte-input c i h)
 
     past : at + 1 + stepsMost ≡ at + (1 + stepsMost)
     past = omega arith
 
-    outs : edit (λ i old. getD (c .outputs) i 0) (at + (1 + stepsMost)) stepsMost (edit byte at (1 + stepsMost) l)
+    outs : stepsStored (c .outputs) (at + (1 + stepsMost)) (edit byte at (1 + stepsMost) l)
         ≡ edit (λ i. byte (1 + stepsMost + i)) (at + (1 + stepsMost)) stepsMost (edit byte at (1 + stepsMost) l)
     outs = edit-same _ _ _ _ _ λ i x h. sym (byte-output c i)
 
 -- so a case stored in three steps is the case placed
 pub placed-from : (c : Case) (p : ℕ) (s s′ s″ : List ℕ)
-    → s′ ≡ edit (λ i old. getD (c .inputs) i 0) (placeAt p + 1) stepsMost (set s (placeAt p) (length (c .inputs)))
-    → s″ ≡ edit (λ i old. getD (c .outputs) i 0) (placeAt p + 1 + stepsMost) stepsMost s′ → s″ ≡ placed s p c
+    → s′ ≡ stepsStored (c .inputs) (placeAt p + 1) (set s (placeAt p) (length (c .inputs)))
+    → s″ ≡ stepsStored (c .outputs) (placeAt p + 1 + stepsMost) s′ → s″ ≡ placed s p c
 unfolding placed
 placed-from c p s s′ s″ e d = rw (d, e) (case-stored c (placeAt p) s)

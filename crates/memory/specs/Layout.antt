@@ -7,9 +7,8 @@ use lib.Dec.{eqb, ltb}
 use lib.ListN.{length, getD, take, drop}
 use Rattle.shapes.specs.First.{first}
 use Rattle.machine.specs.Limits.{cellsMost, numbersMost, stepsMost}
-use Rattle.machine.specs.Case.{Case}
+use Rattle.machine.specs.Case.{Case, asCase}
 use Rattle.machine.specs.declared.head.Head.{Head}
-use Rattle.memory.specs.declared.layout.Place.{Place}
 
 abbrev pub placesMost : ℕ
 placesMost = 64
@@ -51,10 +50,6 @@ placeAt p = placesAt + placeSize * p
 abbrev pub stepsOf : List ℕ → ℕ → ℕ
 stepsOf s p = getD s (placeAt p) 0
 
--- a place, as it is read
-abbrev pub readPlace : List ℕ → ℕ → Place
-readPlace s p = record { at = placeAt p; steps = stepsOf s p }
-
 -- a place holds a case: "a length (0 free)"
 abbrev pub isHeld : List ℕ → ℕ → Bool
 isHeld s p = not (eqb (stepsOf s p) 0)
@@ -62,7 +57,7 @@ isHeld s p = not (eqb (stepsOf s p) 0)
 -- the case that a place holds
 unfoldable pub caseOf : List ℕ → ℕ → Case
 caseOf s p =
-    record { inputs = take (stepsOf s p) (drop (placeAt p + 1) s); outputs = take (stepsOf s p) (drop (placeAt p + 1 + stepsMost) s) }
+    asCase (take (stepsOf s p) (drop (placeAt p + 1) s)) (take (stepsOf s p) (drop (placeAt p + 1 + stepsMost) s))
 
 -- one case, or none
 abbrev pub caseIf : Bool → Case → List Case

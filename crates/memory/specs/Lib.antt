@@ -1,3 +1,4 @@
 pub mod Layout
 pub mod Form
 pub mod Store
+pub mod Loops

@@ -3,14 +3,9 @@ use Prim.Native.Nat.{ℕ, _+_}
 use mathlib.Core.List.{List}
 use lib.ListN.{getD}
 use Rattle.shapes.specs.Edit.{edit}
-use Rattle.machine.specs.Limits.{stepsMost}
 use Rattle.machine.specs.Case.{Case}
 use Rattle.house.specs.File.{restAt}
 use Rattle.memory.specs.Layout.{placeSize, sessionSize, talliesSize, placeAt, placeByte}
-
--- 64 steps from a place on, of a list's first, with zeros after
-abbrev pub stepsStored : List ℕ → ℕ → List ℕ → List ℕ
-stepsStored steps at s = edit (λ i old. getD steps i 0) at stepsMost s
 
 -- a place with a case in it; with no case it is zeroed
 unfoldable pub placed : List ℕ → ℕ → Case → List ℕ

@@ -6,7 +6,8 @@ use shapes::byte;
 ghost use mathlib.Core.Path.{_≡_};
 ghost use Prim.Native.Nat.{_≤_, _<_};
 ghost use lib.ListN.{length};
-ghost use Rattle.memory.specs.Layout.{placesMost, sessionSize, headOf, readPlace, freePlace, cases};
+ghost use Rattle.memory.specs.Layout.{placesMost, sessionSize, headOf, freePlace, cases};
+ghost use Rattle.memory.specs.Loops.{readPlace};
 
 // Where the cells stand.
 pub const SESSION_CELLS_AT: usize = 3;

@@ -11,7 +11,8 @@ ghost use lib.ListN.{length, getD};
 ghost use Rattle.machine.specs.Limits.{stepsMost};
 ghost use Rattle.machine.specs.Case.{asCase, noCase};
 ghost use Rattle.memory.specs.Layout.{placesMost, sessionSize, talliesSize};
-ghost use Rattle.memory.specs.Store.{stepsStored, placed, started, cleared};
+ghost use Rattle.memory.specs.Store.{placed, started, cleared};
+ghost use Rattle.memory.specs.Loops.{stepsStored};
 
 // The byte at a place of a slice, 0 past its end.
 fn byte_or_zero(from: &[u8], at: usize) -> u8

@@ -21,7 +21,7 @@ use Rattle.shapes.proofs.Keep.{keep-more, bit-told}
 use Rattle.shapes.proofs.Refusals.{ruling-join-refused, ruling-join-fine}
 use Rattle.machine.specs.Head.{numbers}
 use Rattle.machine.specs.Machine.{specified}
-use Rattle.machine.specs.Fault.{cellOf, isFault}
+use Rattle.machine.specs.Fault.{cellOf}
 use Rattle.machine.specs.Case.{Case}
 use Rattle.machine.specs.Run.{symptomsOf}
 use Rattle.machine.specs.declared.head.Head.{Head}
@@ -36,11 +36,12 @@ use Rattle.diagnosis.specs.declared.Verdict.{Verdict}
 use Rattle.diagnosis.specs.declared.Verdict.the-variants as verdicts
 use Rattle.diagnosis.proofs.Lists.{list-by-tallies}
 use Rattle.diagnosis.proofs.Candidates.{candidate-law}
-use Rattle.memory.specs.Layout.{headOf, cellsOf, placeAt, stepsOf, isHeld, caseOf, caseIf, casesAt, heldTo, cases}
+use Rattle.memory.specs.Layout.{headOf, cellsOf, isHeld, caseOf, caseIf, casesAt, heldTo, cases}
 use Rattle.memory.specs.Form.{Formed, formRules, slotRules}
+use Rattle.memory.specs.Loops.{readPlace}
 use Rattle.session.specs.Tallies.{TrueTallies}
-use Rattle.reading.specs.Reads.{machineOf, listOf, verdictIn, listRules, listed, listCall, falseTally, auditCall, symptomsCall}
-use Rattle.reading.specs.Loops.{verdictBy}
+use Rattle.reading.specs.Reads.{machineOf, listOf, verdictIn, listRules, listed, listCall, falseTally, auditCall, symptomsCall, isListedBy}
+use Rattle.reading.specs.Loops.{verdictBy, failsAt}
 use Rattle.memory.specs.declared.layout.Place.{Place}
 use Rattle.reading.specs.declared.list.Listing.the-variants as listings
 use Rattle.reading.specs.declared.audit.Audited.the-variants as audits
@@ -118,10 +119,10 @@ module _ (p : ℕ → Bool) (old : List ℕ) where
 
 -- whether a number is listed in a session
 abbrev pub listedAt : List ℕ → List ℕ → ℕ → Bool
-listedAt s t f = isFault (headOf s) (cellsOf s) f && eqb (getD t f 0) 0
+listedAt s t f = isListedBy (headOf s) (cellsOf s) f (getD t f 0)
 
 -- the head read serves for the one named,
-pub listed-told : (s t : List ℕ) (f : ℕ) {h : Head} {r : Bool} → h ≡ headOf s → r ≡ (isFault h (cellsOf s) f && eqb (getD t f 0) 0) → r ≡ listedAt s t f
+pub listed-told : (s t : List ℕ) (f : ℕ) {h : Head} {r : Bool} → h ≡ headOf s → r ≡ isListedBy h (cellsOf s) f (getD t f 0) → r ≡ listedAt s t f
 listed-told s t f e d = rw e at d
 
 -- and so do the numbers that it gives
@@ -184,8 +185,8 @@ module _ (s : List ℕ) where
       last true b h = refl
       last false b h = h
 
-      go : (p < n → some q (heldTo s n) ≡ true) → (p ≡ n) ⊎ (p < n) → (some q (heldTo s n) || some q (caseIf (isHeld s n) (caseOf s n))) ≡ true
-      go rest (inl h) = last (some q (heldTo s n)) (some q (caseIf (isHeld s n) (caseOf s n))) (rw h at (one (isHeld s p) e))
+      go : (p < n → some q (heldTo s n) ≡ true) → (p ≡ n) ⊎ (p < n) → (some q (heldTo s n) || some q (casesAt s n)) ≡ true
+      go rest (inl h) = last (some q (heldTo s n)) (some q (casesAt s n)) (rw h at (one (isHeld s p) e))
       go rest (inr h) = rw (rest h)
 
   -- a place's case counts with those below it
@@ -212,10 +213,10 @@ pub false-begins : (s t : List ℕ) {n : ℕ} → n ≡ numbers (headOf s) → f
 unfolding falseTally
 false-begins s t e = rw (sub-zero, e)
 
-module _ (s : List ℕ) (p : ℕ) {here : Place} (e : here ≡ record { at = placeAt p; steps = stepsOf s p }) {h : Head} (same : h ≡ headOf s) where
+module _ (s : List ℕ) (p : ℕ) {here : Place} (e : here ≡ readPlace s p) {h : Head} (same : h ≡ headOf s) where
   -- what is told of the two parts that were read is told of the case: whether it fails,
   pub failing-told : {r : Bool} → r ≡ fails (specified h (cellsOf s)) (caseRead s here) → isHeld s p ≡ true
-      → r ≡ (isHeld s p && fails (machineOf s) (caseOf s p))
+      → r ≡ failsAt s p
   failing-told d k = rw k (d ∙ rw (parts-case s p e, same))
 
   -- whether a number's machine misses it,

@@ -3,7 +3,7 @@
 -- Assumes nothing.
 use Prim.Native.Nat.{ℕ, zero, suc, _+_, _-_, _*_, _≤_, _<_}
 use mathlib.Core.Path.{_≡_, refl, sym, ap, _∙_}
-use mathlib.Core.List.{List, [], _∷_, _++_, append-nil, append-assoc}
+use mathlib.Core.List.{List, [], _∷_, _++_, append-nil}
 use mathlib.Core.Bool.{Bool, true, false, cond, not, _&&_, _||_}
 use mathlib.Core.Logic.{_⊎_, inl, inr}
 use native.Mathlib.Nat.{zero-add, eq-or-lt-of-le}
@@ -29,12 +29,14 @@ use Rattle.house.specs.declared.refusal.Answer as Answer-type
 use Rattle.house.specs.declared.refusal.Refusal.{Refusal}
 use Rattle.house.specs.declared.refusal.Refusal.the-variants.{Short}
 use Rattle.diagnosis.specs.Diagnosis.{fails, someFails, conflicts, conflictBytes, isCandidate}
-use Rattle.diagnosis.specs.Loops.{narrowed, Bits}
-use Rattle.memory.specs.Layout.{placesMost, sessionSize, headOf, cellsOf, placeAt, stepsOf, isHeld, caseOf, caseIf, heldTo, cases}
+use Rattle.diagnosis.specs.Loops.{narrowed, Bits, spread}
+use Rattle.memory.specs.Layout.{placesMost, sessionSize, headOf, cellsOf, stepsOf, isHeld, caseOf, caseIf, heldTo, cases}
 use Rattle.memory.specs.Form.{goodPlace, formRules, slotRules}
+use Rattle.memory.specs.Loops.{readPlace}
 use Rattle.reading.specs.Reads.{machineOf, saveRules, saveCall, bytesRules, conflictCall, candidateBytes, candidatesCall}
-use Rattle.reading.specs.Loops.{bytesAt, narrowedIf, narrowedAll}
+use Rattle.reading.specs.Loops.{bytesAt, narrowedIf, narrowedAll, narrowedAt}
 use Rattle.memory.specs.declared.layout.Place.{Place}
+use Rattle.house.proofs.Records.{record-size, rest-append}
 use Rattle.memory.proofs.Formed.{place-few}
 use Rattle.memory.proofs.Known.{told-fine, told-refused, held-read, free-read, place-within}
 
@@ -71,7 +73,7 @@ filled-none l at = refl
 
 -- a good place that was read
 module _ (s : List ℕ) (p : ℕ) (room : sessionSize ≤ length s) (inside : p < placesMost) (good : goodPlace s p ≡ true) {here : Place}
-    (e : here ≡ record { at = placeAt p; steps = stepsOf s p }) where
+    (e : here ≡ readPlace s p) where
   -- the bytes of a free place: none
   pub bytes-free : here .steps ≡ 0 → bytesAt s p ≡ []
   bytes-free z = rw (free-read s p e z) (rest-none (caseOf s p))
@@ -102,19 +104,13 @@ module _ (s : List ℕ) (p : ℕ) (room : sessionSize ≤ length s) (inside : p 
   put-bytes at r l out ec z k = rw (bytes-held z) (rw ec at k)
 
   -- a free place leaves the candidates,
-  pub free-narrows : (out : List ℕ) → here .steps ≡ 0 → out ≡ narrowedIf (isHeld s p) (machineOf s) (caseOf s p) out
+  pub free-narrows : (out : List ℕ) → here .steps ≡ 0 → out ≡ narrowedAt s p out
   free-narrows out z = rw (free-read s p e z)
 
   -- and a held one narrows them by its case
   pub held-narrows : {h : Head} {c : Case} (l out : List ℕ) → h ≡ headOf s → c ≡ caseOf s p → (here .steps ≡ 0 → ⊥)
-      → l ≡ narrowed (specified h (cellsOf s)) c out → l ≡ narrowedIf (isHeld s p) (machineOf s) (caseOf s p) out
+      → l ≡ narrowed (specified h (cellsOf s)) c out → l ≡ narrowedAt s p out
   held-narrows l out eh ec z k = rw (held-read s p e z) (rw (eh, ec) at k)
-
--- the bytes of cases before others are the bytes of both, one after the other
-rest-append : (a b : List Case) → restOf (a ++ b) ≡ restOf a ++ restOf b
-unfolding restOf
-rest-append [] b = refl
-rest-append (c ∷ a) b = rw (rest-append a b, append-assoc)
 
 module _ (s : List ℕ) where
   -- the bytes of the cases held below the next place
@@ -158,26 +154,21 @@ module _ (s : List ℕ) where
   rest-written p at l m out e el em =
       rw (em, el, e, add-one, rest-more) (filled-append out restAt (restOf (heldTo s p)) _)
 
--- a record is three bytes and its cases'
-pub record-long : (cs : List Case) → length (recordFile cs) ≡ restAt + length (restOf cs)
-unfolding recordFile fileOf fileHead
-record-long cs = omega arith
-
--- so it has three bytes at least,
+-- a record has three bytes at least,
 pub record-some : {n : ℕ} (cs : List Case) → n ≡ length (recordFile cs) → restAt ≤ n
-record-some cs e = omega (arith, record-long cs)
+record-some cs e = omega (arith, record-size cs)
 
 -- where it has room after its head is written, so have its cases,
 pub record-room : {n : ℕ} (cs : List Case) (l out v : List ℕ) → n ≡ length (recordFile cs) → n ≤ length out → l ≡ filled out 0 v
     → restAt + length (restOf cs) ≤ length l
-record-room cs l out v e k el = rw (el, length-filled) (omega (arith, record-long cs))
+record-room cs l out v e k el = rw (el, length-filled) (omega (arith, record-size cs))
 
 -- and its head and then its cases written are all of it written
 record-written : (n : ℕ) (out : List ℕ) (cs : List Case) → n ≡ length (recordFile cs)
     → filled (filled out 0 (fileHead version (n - restAt))) restAt (restOf cs) ≡ filled out 0 (recordFile cs)
 unfolding recordFile fileOf fileHead
 record-written n out cs e =
-    let size : n - restAt ≡ length (restOf cs) = omega (arith, record-long cs) in
+    let size : n - restAt ≡ length (restOf cs) = omega (arith, record-size cs) in
     rw size (filled-append out 0 (fileHead version (length (restOf cs))) (restOf cs))
 
 -- a rule after rules that say nothing: it refuses where its test is true,
@@ -342,13 +333,13 @@ narrow-turn s M p l m out el em = rw (em, add-one, narrowed-append, ← el) (go 
 
 module _ (h : Head) (cells : List ℕ) (cs : List Case) (out : List ℕ) where
   -- where no case fails there is no candidate,
-  pub candidates-none : (l : List ℕ) → someFails h cells cs ≡ false → l ≡ edit (λ cell old. 0) 0 cellsMost out
+  pub candidates-none : (l : List ℕ) → someFails h cells cs ≡ false → l ≡ spread 0 out
       → l ≡ candidateBytes (specified h cells) cs out
   unfolding someFails candidateBytes isCandidate
   candidates-none l good e = rw good e
 
   -- and where one does, of all 256 ones the cases leave the candidates
-  pub candidates-of-ones : (ones l : List ℕ) → cellsMost ≤ length out → someFails h cells cs ≡ true → ones ≡ edit (λ cell old. 1) 0 cellsMost out
+  pub candidates-of-ones : (ones l : List ℕ) → cellsMost ≤ length out → someFails h cells cs ≡ true → ones ≡ spread 1 out
       → l ≡ narrowedAll (specified h cells) cs ones → l ≡ candidateBytes (specified h cells) cs out
   unfolding someFails candidateBytes isCandidate leaves
   candidates-of-ones ones l room bad e el =

@@ -2,11 +2,8 @@
 use Prim.Native.Nat.{ℕ, zero, suc}
 use mathlib.Core.List.{List, [], _∷_}
 use mathlib.Core.Bool.{Bool, true, false, _&&_}
-use lib.Dec.{eqb}
 use Rattle.machine.specs.Machine.{Machine}
 use Rattle.machine.specs.Case.{Case}
-use Rattle.machine.specs.Fault.{isFault}
-use Rattle.machine.specs.declared.head.Head.{Head}
 use Rattle.house.specs.Cases.{restOf}
 use Rattle.diagnosis.specs.Diagnosis.{fails}
 use Rattle.diagnosis.specs.Loops.{narrowed}
@@ -14,10 +11,6 @@ use Rattle.diagnosis.specs.declared.Verdict.{Verdict}
 use Rattle.diagnosis.specs.declared.Verdict.the-variants as verdicts
 use Rattle.memory.specs.Layout.{isHeld, caseOf, casesAt}
 use Rattle.reading.specs.Reads.{machineOf}
-
--- a number with this tally is listed: it is a fault, and the tally is 0
-abbrev pub isListedBy : Head → List ℕ → ℕ → ℕ → Bool
-isListedBy h cells f tally = isFault h cells f && eqb tally 0
 
 -- a place holds a case that fails
 abbrev pub failsAt : List ℕ → ℕ → Bool

@@ -16,6 +16,7 @@ use Rattle.machine.specs.Fault.{isFault}
 use Rattle.machine.specs.Run.{symptomsOf}
 use Rattle.machine.specs.Case.{Case}
 use Rattle.machine.specs.declared.replay.Symptoms.{Symptoms}
+use Rattle.machine.specs.declared.head.Head.{Head}
 use Rattle.house.specs.Refusal.{Written, writtenOr}
 use Rattle.house.specs.Cases.{recordFile}
 use Rattle.house.specs.declared.refusal.Refusal.{Refusal}
@@ -32,9 +33,13 @@ use Rattle.reading.specs.declared.conflicts.Shown as Shown-type
 abbrev pub machineOf : List ℕ → Machine
 machineOf s = specified (headOf s) (cellsOf s)
 
--- "A session call lists the faults whose tally is 0"
+-- "A session call lists the faults whose tally is 0": a number with this tally is listed
+abbrev pub isListedBy : Head → List ℕ → ℕ → ℕ → Bool
+isListedBy h cells f tally = isFault h cells f && eqb tally 0
+
+-- so the list by the tallies
 unfoldable pub listOf : List ℕ → List ℕ → List ℕ
-listOf s t = keepTo (λ f. isFault (headOf s) (cellsOf s) f && eqb (getD t f 0) 0) (numbers (headOf s))
+listOf s t = keepTo (λ f. isListedBy (headOf s) (cellsOf s) f (getD t f 0)) (numbers (headOf s))
 
 -- "and replays the unchanged table to see if a case fails"
 unfoldable pub verdictIn : List ℕ → List ℕ → Verdict

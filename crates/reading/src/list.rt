@@ -21,8 +21,8 @@ ghost use Rattle.machine.specs.Cell.{TableIn};
 ghost use Rattle.diagnosis.specs.Diagnosis.{someFails};
 ghost use Rattle.memory.specs.Layout.{placesMost, sessionSize, headOf, cellsOf, cases};
 ghost use Rattle.memory.specs.Form.{goodTable, goodPlace, goodPlaces, Formed};
-ghost use Rattle.reading.specs.Reads.{listOf, listed, listCall};
-ghost use Rattle.reading.specs.Loops.{isListedBy, failsAt, verdictBy};
+ghost use Rattle.reading.specs.Reads.{isListedBy, listOf, listed, listCall};
+ghost use Rattle.reading.specs.Loops.{failsAt, verdictBy};
 
 // What listing answers: the verdict and how many faults, or the refusal.
 pub enum Listing {

@@ -12,11 +12,11 @@ use lib.ListN.{length, getD, take, drop, length-append, length-drop}
 use lib.Seq.{take-suc, take-at, getD-drop, drop-drop}
 use Rattle.shapes.specs.Refusals.{ruling, fine}
 use Rattle.machine.specs.Case.{Case, noCase}
-use Rattle.house.specs.File.{restAt, fileOf, fileHead}
-use Rattle.house.specs.Cases.{caseBytes, restOf, recordFile, stepsAt, caseFits, caseAt, casesFrom, casesIn, countIn, countOf, recordRules}
+use Rattle.house.specs.File.{restAt}
+use Rattle.house.specs.Cases.{caseBytes, restOf, stepsAt, caseFits, caseAt, casesFrom, casesIn, countIn, countOf, recordRules}
 use Rattle.house.specs.Walk.{placeOf}
 use Rattle.retest.specs.Retest.{atPosition, placeIn}
-use Rattle.house.proofs.Records.{case-fits, case-there, cases-counted}
+use Rattle.house.proofs.Records.{case-fits, case-there, cases-counted, record-size, rest-append}
 use Rattle.house.proofs.Places.{place-fits}
 use Rattle.house.proofs.Against.{next-case}
 
@@ -50,15 +50,9 @@ case-positioned file i h =
     sym (ap (λ l. getD l 0 noCase) e) ∙ d ∙ rw add-zero
 
 -- one case more is its bytes more
-rest-more : (cs : List Case) (c : Case) → length (restOf (cs ++ (c ∷ []))) ≡ length (restOf cs) + length (caseBytes c)
+rest-longer : (cs : List Case) (c : Case) → length (restOf (cs ++ (c ∷ []))) ≡ length (restOf cs) + length (caseBytes c)
 unfolding restOf
-rest-more [] c = rw append-nil (omega arith)
-rest-more (d ∷ cs) c = let e = rest-more cs c in simp length-append (omega arith)
-
--- a record is three bytes and its cases'
-record-size : (cs : List Case) → length (recordFile cs) ≡ 3 + length (restOf cs)
-unfolding recordFile fileOf fileHead
-record-size cs = omega arith
+rest-longer cs c = rw (rest-append, length-append, append-nil)
 
 module _ (file : List ℕ) (ok : ruling (recordRules file) ≡ fine) where
   -- the place of a position comes after as many bytes as the record of the cases before it has
@@ -71,7 +65,7 @@ module _ (file : List ℕ) (ok : ruling (recordRules file) ≡ fine) where
       let t = take-suc cs i noCase (rw (cases-counted file) h) in
       let c : caseAt file (placeOf file i) ≡ getD cs i noCase = case-positioned file i h in
       let s = case-size file (placeOf file i) (place-fits file ok i h) in
-      let m = rest-more (take i cs) (getD cs i noCase) in
+      let m = rest-longer (take i cs) (getD cs i noCase) in
       let a = record-size (take i cs) in
       let b = record-size (take i cs ++ (getD cs i noCase ∷ [])) in
       rw (t, b, m, ← c, s) (omega (arith, e, a))

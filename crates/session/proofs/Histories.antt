@@ -29,7 +29,7 @@ use Rattle.house.specs.declared.table.TableFile.the-variants.{Table}
 use Rattle.house.proofs.Tables.{table-taken}
 use Rattle.house.proofs.Against.{case-fine, cases-fine}
 use Rattle.diagnosis.specs.Diagnosis.{tally}
-use Rattle.memory.specs.Layout.{placesMost, sessionCellsAt, cellsRoom, sessionSize, talliesSize, headOf, cellsOf, isHeld, caseOf, caseIf, heldTo, cases, freePlace}
+use Rattle.memory.specs.Layout.{placesMost, sessionCellsAt, cellsRoom, sessionSize, talliesSize, headOf, cellsOf, isHeld, caseOf, caseIf, heldTo, cases, freePlace, casesAt}
 use Rattle.memory.specs.Form.{Formed, roomRules, formRules, isSlot, slotRules}
 use Rattle.session.specs.Tallies.{TrueTallies, canTake, raised, lowered}
 use Rattle.session.specs.Calls.{Offer, outcomeOr, startRules, startCall, addRules, addCall, withdrawRules, withdrawCall, amendRules, amendCall, loadedSession, loadedTallies, roomForRules, loadRules, loadCall}
@@ -104,18 +104,18 @@ cases-decide : (h : Head) (cs : List Case) → Decides (ruling (casesRules h alo
 cases-decide h cs = decides-from _ _ (cases-fine h alone cs)
 
 -- what a place of the memory holds is a case exactly if the place is held
-slot-holding : (s : List ℕ) (p : ℕ) → isHolding (contentOf s p) ≡ isHeld s p
+content-holding : (s : List ℕ) (p : ℕ) → isHolding (contentOf s p) ≡ isHeld s p
 unfolding contentOf
-slot-holding s p = go (isHeld s p)
+content-holding s p = go (isHeld s p)
   where
     go : (b : Bool) → isHolding (cond b (holds (caseOf s p)) free) ≡ b
     go true = refl
     go false = refl
 
 -- and its cases are those of the place
-slot-cases : (s : List ℕ) (p : ℕ) → caseIf (isHeld s p) (caseOf s p) ≡ contentCases (contentOf s p)
+content-cases : (s : List ℕ) (p : ℕ) → casesAt s p ≡ contentCases (contentOf s p)
 unfolding contentOf
-slot-cases s p = go (isHeld s p)
+content-cases s p = go (isHeld s p)
   where
     go : (b : Bool) → caseIf b (caseOf s p) ≡ contentCases (cond b (holds (caseOf s p)) free)
     go true = refl
@@ -126,7 +126,7 @@ held-same : (s : List ℕ) (at : ℕ → Content) (n : ℕ) → ((p : ℕ) → p
 unfolding heldTo casesTo
 held-same s at zero each = refl
 held-same s at (suc n) each =
-    λ i. held-same s at n (λ p l. each p (omega arith)) i ++ (slot-cases s n ∙ ap contentCases (each n (omega arith))) i
+    λ i. held-same s at n (λ p l. each p (omega arith)) i ++ (content-cases s n ∙ ap contentCases (each n (omega arith))) i
 
 module _ (s t : List ℕ) (m : Model) (k : Shows s t m) where
   -- the cases held are those of the model, by rising place
@@ -136,7 +136,7 @@ module _ (s t : List ℕ) (m : Model) (k : Shows s t m) where
 
   -- a place is held exactly if it holds a case in the model
   held-shown : (p : ℕ) → p < placesMost → isHolding (m .at p) ≡ isHeld s p
-  held-shown p l = ap isHolding (sym (k .same-places p l)) ∙ slot-holding s p
+  held-shown p l = ap isHolding (sym (k .same-places p l)) ∙ content-holding s p
 
   -- so the same place is the lowest that is free,
   free-shown : lowest (m .at) ≡ freePlace s
@@ -366,9 +366,9 @@ load-taken fine n cs m = refl
 load-taken (refused r) n cs m = refl
 
 -- a file that the rules let pass is a table
-table-fine : (v : Ruling Refusal) (h : Head) → isFine v ≡ true → tableOr v h ≡ Table h
-table-fine fine h e = refl
-table-fine (refused r) h e = absurd (false≢true e)
+table-passes : (v : Ruling Refusal) (h : Head) → isFine v ≡ true → tableOr v h ≡ Table h
+table-passes fine h e = refl
+table-passes (refused r) h e = absurd (false≢true e)
 
 -- every call keeps it so, refused or not
 pub call-shows : (c : Call) (s t : List ℕ) (m : Model) → Shows s t m → ShowsMemory (called c (memory s t)) (step c m)
@@ -378,7 +378,7 @@ call-shows (start file) s t m k =
     let rest = k .formed .tallies-room in
     rw (start-taken (ruling (tableRules file)) (headIn file) file m)
     (done-shows (ruling (startRules s t file)) 0 s t (started s file) (cleared t) _ m (startedModel file (headIn file)) (start-decides s t file room rest) k
-    (λ e. started-shows s t file (headIn file) room rest (table-fine (ruling (tableRules file)) (headIn file) e)))
+    (λ e. started-shows s t file (headIn file) room rest (table-passes (ruling (tableRules file)) (headIn file) e)))
 call-shows (add o) s t m k =
     done-shows (ruling (addRules s t o)) (freePlace s) s t (placed s (freePlace s) (o .case)) (raised s (o .case) t) _ m _ (add-decides s t m k o) k
     (λ e. let a = and-true (fitsTable m (o .case)) _ e in

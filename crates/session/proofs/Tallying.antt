@@ -2,9 +2,8 @@
 use Prim.Native.Nat.{ℕ, _-_}
 use mathlib.Core.Path.{_≡_, ap, _∙_}
 use mathlib.Core.List.{List}
-use mathlib.Core.Bool.{Bool, _&&_}
+use mathlib.Core.Bool.{Bool}
 use native.Mathlib.Omega.{arith}
-use lib.Dec.{leb}
 use lib.ListN.{getD}
 use Rattle.shapes.specs.Edit.{edit}
 use Rattle.shapes.specs.Keep.{bit}
@@ -14,7 +13,7 @@ use Rattle.machine.specs.Case.{Case}
 use Rattle.machine.specs.declared.head.Head.{Head}
 use Rattle.diagnosis.specs.Diagnosis.{misses}
 use Rattle.memory.specs.Layout.{headOf, cellsOf}
-use Rattle.session.specs.Tallies.{miss}
+use Rattle.session.specs.Tallies.{miss, canLoseBy}
 
 module _ (s : List ℕ) (h : Head) (same : h ≡ headOf s) where
   -- the count that the head read gives is that of the numbers in use
@@ -37,9 +36,9 @@ tally-next g n t t₀ e = rw e (edit-out-above g 0 n t₀ n (omega arith))
 
 -- one tally can lose a case: it does not go below 0, nor stay above the cases left
 abbrev pub canLose : List ℕ → Case → List ℕ → ℕ → ℕ → Bool
-canLose s c t left f = leb (miss s c f) (getD t f 0) && leb (getD t f 0 - miss s c f) left
+canLose s c t left f = canLoseBy (miss s c f) (getD t f 0) left
 
 -- what is told of a miss is told of the tally that is to lose it
-pub lose-told : (s : List ℕ) (c : Case) (t : List ℕ) (left f r : ℕ) {b : Bool} → r ≡ miss s c f → b ≡ (leb r (getD t f 0) && leb (getD t f 0 - r) left)
+pub lose-told : (s : List ℕ) (c : Case) (t : List ℕ) (left f r : ℕ) {b : Bool} → r ≡ miss s c f → b ≡ canLoseBy r (getD t f 0) left
     → b ≡ canLose s c t left f
 lose-told s c t left f r e d = rw (← e) d

@@ -4,9 +4,8 @@
 use Prim.Native.Nat.{ℕ, _+_, _-_, _≤_, _<_}
 use mathlib.Core.Path.{_≡_, sym, ap, _∙_}
 use mathlib.Core.List.{List, []}
-use mathlib.Core.Bool.{true, _&&_}
+use mathlib.Core.Bool.{true}
 use native.Mathlib.Omega.{arith}
-use lib.Dec.{leb}
 use lib.ListN.{length, getD}
 use borrow.Author.Tests.{le-leb}
 use Rattle.shapes.specs.Keep.{count}
@@ -21,14 +20,14 @@ use Rattle.house.proofs.Tables.{table-known}
 use Rattle.diagnosis.specs.Diagnosis.{misses, tally}
 use Rattle.memory.specs.Layout.{placesMost, sessionSize, talliesSize, headOf, cellsOf, caseOf, cases, freePlace}
 use Rattle.memory.specs.Form.{Formed, isSlot}
-use Rattle.session.specs.Tallies.{TrueTallies, miss, canTake, raised, lowered}
+use Rattle.memory.proofs.Started.{started-none, table-short, started-table, cleared-zero}
+use Rattle.session.specs.Tallies.{TrueTallies, miss, canTake, raised, lowered, canLoseBy}
 use Rattle.memory.specs.Store.{placed, started, cleared}
 use Rattle.memory.proofs.Formed.{free-low}
 use Rattle.memory.proofs.Stored.{Fits, no-fits, head-placed, cells-placed}
 use Rattle.session.proofs.Tallied.{raised-in, lowered-in, length-lowered}
 use Rattle.memory.proofs.Held.{OneMore, length-more, count-more, good-fits, slot-inside, slot-held, cases-taken, cases-free, cases-put, formed-numbers}
 use Rattle.machine.proofs.Sound.{numbers-few}
-use Rattle.memory.proofs.Started.{started-none, table-short, started-table, cleared-zero}
 
 -- each tally in use is there
 tally-there : (s t : List ℕ) → Formed s t → (f : ℕ) → f < numbers (headOf s) → f < length t
@@ -91,7 +90,7 @@ module _ (s t : List ℕ) (p : ℕ) (k : Formed s t) (now : TrueTallies s t) (sl
   true-can-take = all-from _ (numbers (headOf s)) each
     where
       each : (f : ℕ) → f < numbers (headOf s)
-          → (leb (miss s (caseOf s p) f) (getD t f 0) && leb (getD t f 0 - miss s (caseOf s p) f) (length (cases s) - 1)) ≡ true
+          → canLoseBy (miss s (caseOf s p) f) (getD t f 0) (length (cases s) - 1) ≡ true
       each f m =
           let e = tally-old f m in
           let n = tally-few (headOf s) (cellsOf s) (cases (placed s p noCase)) f in

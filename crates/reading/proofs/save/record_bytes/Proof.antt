@@ -7,8 +7,9 @@ use lib.ListN.{length}
 use Rattle.shapes.proofs.First.{all-at}
 use Rattle.house.specs.File.{restAt}
 use Rattle.house.specs.Cases.{restOf}
+use Rattle.house.proofs.Records.{record-size}
 use Rattle.memory.specs.Layout.{placesMost, placeSize, heldTo, cases}
-use Rattle.reading.proofs.Saved.{rest-begins, rest-turn, record-long}
+use Rattle.reading.proofs.Saved.{rest-begins, rest-turn}
 use native.Mathlib.Omega.{arith}
 use Rattle.reading.proofs.save.record_bytes.Statement.{statement}
 use Rattle.reading.proofs.save.record_bytes.Tie as tie
@@ -39,7 +40,7 @@ loop-again c = (omega arith, (rest-turn _ _ _ _ (c .before .before .loop .inv .1
 
 returns : tie.Need-returns Inv-loop μ-loop
 unfolding cases
-returns c = let e : c .before .loop .place ≡ placesMost = omega arith in (rw e at (c .before .loop .inv .1 .0) ∙ sym (record-long _), omega arith)
+returns c = let e : c .before .loop .place ≡ placesMost = omega arith in (rw e at (c .before .loop .inv .1 .0) ∙ sym (record-size _), omega arith)
 
 pub record-bytes-spec : {M : Type 1} → statement M
 record-bytes-spec =

@@ -8,6 +8,7 @@ use borrow.Author.Count.{below-more}
 use native.Mathlib.Omega.{arith}
 use Rattle.shapes.proofs.First.{all-from, all-fails}
 use Rattle.shapes.proofs.Tests.{refuted, passes}
+use Rattle.machine.specs.Case.{asCase}
 use Rattle.session.specs.Tallies.{canLower}
 use Rattle.session.proofs.Tallying.{count-told, miss-told, canLose, lose-told}
 use Rattle.session.proofs.tally.can_lower.Statement.{statement}
@@ -15,7 +16,7 @@ use Rattle.session.proofs.tally.can_lower.Tie as tie
 
 abbrev Inv-loop : tie.InvT-loop
 Inv-loop session tallies inputs outputs left head count cells marks failing number₀ number =
-    (number ≤ count) × ((f : ℕ) → f < number → canLose session (record { inputs = inputs; outputs = outputs }) tallies left f ≡ true)
+    (number ≤ count) × ((f : ℕ) → f < number → canLose session (asCase inputs outputs) tallies left f ≡ true)
 
 abbrev μ-loop : tie.MeasureT-loop
 μ-loop session tallies inputs outputs left head count cells marks failing number₀ number = count - number

@@ -8,6 +8,7 @@ use native.Mathlib.Omega.{arith}
 use lib.ListN.{length}
 use Rattle.shapes.specs.Edit.{edit}
 use Rattle.shapes.proofs.Edit.{edit-none, edit-turn, length-edit}
+use Rattle.machine.specs.Case.{asCase}
 use Rattle.session.specs.Tallies.{miss, raised}
 use Rattle.session.proofs.Tallying.{count-told, miss-told, all-told, tally-next}
 use Rattle.session.proofs.tally.raise.Statement.{statement}
@@ -15,7 +16,7 @@ use Rattle.session.proofs.tally.raise.Tie as tie
 
 abbrev Inv-loop : tie.InvT-loop
 Inv-loop session tallies₀ inputs outputs head count cells marks failing number₀ tallies number =
-    (number ≤ count) × (tallies ≡ edit (λ f old. old + miss session (record { inputs = inputs; outputs = outputs }) f) 0 number tallies₀)
+    (number ≤ count) × (tallies ≡ edit (λ f old. old + miss session (asCase inputs outputs) f) 0 number tallies₀)
 
 abbrev μ-loop : tie.MeasureT-loop
 μ-loop session tallies₀ inputs outputs head count cells marks failing number₀ tallies number = count - number

@@ -166,7 +166,7 @@ def poke(at, value):
     step("POKE", two(at) + bytes([value]), f"{at} {value}")
 
 
-def summed(words="... ..."):
+def summed(words):
     step("SUM", b"", words)
 
 

@@ -14,15 +14,15 @@ pub data Ruling (R : Type 0) : Type 0 where
   refused : R → Ruling R
 
 -- one rule: refused with r where the test is true, else what the rest says
-unfoldable pub pick : {R : Type 0} → Bool → R → Ruling R → Ruling R
-pick true r rest = refused r
-pick false r rest = rest
+unfoldable pub refusedIf : {R : Type 0} → Bool → R → Ruling R → Ruling R
+refusedIf true r rest = refused r
+refusedIf false r rest = rest
 
 -- the first rule whose test is true refuses; else fine
 unfoldable pub ruling : {R : Type 0} → List (Rule R) → Ruling R
-unfolding pick
+unfolding refusedIf
 ruling [] = fine
-ruling (when t r ∷ l) = pick t r (ruling l)
+ruling (when t r ∷ l) = refusedIf t r (ruling l)
 
 -- every rule's test is false
 abbrev pub AllFalse : {R : Type 0} → List (Rule R) → Type 0

@@ -1,6 +1,6 @@
 // What is about no machine, stated and proved once for every crate: the shapes of a test loop, of a write loop and of an ordered
-// list of refusals, and what it means that a contract allows one answer only. Definitions in specs/, laws in proofs/, and the
-// two accesses that every crate makes.
+// list of refusals, and what it means that a contract allows one answer only. Definitions in specs/, laws in proofs/, and two
+// accesses of slices that know no file and no machine.
 ghost use mathlib.Core.Path.{_≡_};
 ghost use Prim.Native.Nat.{_+_, _≤_, _<_};
 ghost use lib.ListN.{length, getD};

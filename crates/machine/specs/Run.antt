@@ -1,5 +1,5 @@
 -- The run of a machine, and what a case shows against it (document 01, "Machine", "Symptoms, conflict sets, verdict"; document 000).
--- The layers above rest on the laws of `proofs/Run.antt` and unfold none of these.
+-- The layers above rest on the laws of `proofs/Run.antt` and unfold none of these; the table of examples, which computes, does.
 use Prim.Native.Nat.{ℕ, suc}
 use mathlib.Core.List.{List, [], _∷_}
 use mathlib.Core.Bool.{Bool, true, cond, _&&_}

@@ -74,3 +74,9 @@ unfolding isCandidate someFails
 candidate-law h cells cs f good bad listed =
     let l = and-true (isFault h cells f) (explainsAll h cells cs f) (sym (listed-exactly h cells cs f) ∙ listed) in
     rw (bad, in-conflicts h cells cs f good (l .1))
+
+-- "empty if no case fails": then no cell is a candidate
+pub candidates-none : (h : Head) (cells : List ℕ) (cs : List Case) (cell : ℕ) → someFails h cells cs ≡ false
+    → isCandidate (specified h cells) cs cell ≡ false
+unfolding isCandidate someFails
+candidates-none h cells cs cell none = rw none

@@ -39,10 +39,10 @@ use Rattle.machine.proofs.replay.is_expected.Reads as is-expected-reads
 use Rattle.machine.proofs.replay.mark_executed.Kinds as mark-executed-kinds
 use Rattle.machine.proofs.replay.mark_executed.Reads as mark-executed-reads
 
-is-within-one : OneAnswer is-within-kinds.ps is-within-kinds.r is-within-reads.Post
+pub is-within-one : OneAnswer is-within-kinds.ps is-within-kinds.r is-within-reads.Post
 is-within-one κs a z z′ ws ws′ p q = (p ∙ sym q, refl)
 
-head-new-one : OneAnswer head-new-kinds.ps head-new-kinds.r head-new-reads.Post
+pub head-new-one : OneAnswer head-new-kinds.ps head-new-kinds.r head-new-reads.Post
 head-new-one κs a z z′ ws ws′ p q = (p .0 ∙ sym (q .0), refl)
 
 head-cells-one : OneAnswer head-cells-kinds.ps head-cells-kinds.r head-cells-reads.Post
@@ -78,7 +78,7 @@ fault-change-one κs a z z′ ws ws′ p q = (p ∙ sym q, refl)
 is-fault-one : OneAnswer is-fault-kinds.ps is-fault-kinds.r is-fault-reads.Post
 is-fault-one κs a z z′ ws ws′ p q = (p ∙ sym q, refl)
 
-is-case-one : OneAnswer is-case-kinds.ps is-case-kinds.r is-case-reads.Post
+pub is-case-one : OneAnswer is-case-kinds.ps is-case-kinds.r is-case-reads.Post
 is-case-one κs a z z′ ws ws′ p q = (p ∙ sym q, refl)
 
 symptoms-of-one : OneAnswer symptoms-of-kinds.ps symptoms-of-kinds.r symptoms-of-reads.Post

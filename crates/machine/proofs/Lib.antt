@@ -2,8 +2,10 @@ pub mod Numbers
 pub mod Sound
 pub mod Moves
 pub mod Faults
+pub mod Mutants
 pub mod Cases
 pub mod Run
+pub mod Same
 pub mod Replayed
 pub mod Marks
 pub mod Answers

@@ -4,6 +4,7 @@ use Prim.Native.Nat.{ℕ, zero, suc, _+_, _<_}
 use mathlib.Core.Path.{_≡_, refl, sym, ap}
 use mathlib.Core.List.{List, [], _∷_}
 use mathlib.Core.Bool.{Bool, true, false, cond, _&&_, true≢false}
+use mathlib.Core.Logic.{_↔_}
 use native.Mathlib.Nat.{zero-add}
 use native.Mathlib.Omega.{arith}
 use lib.Dec.{eqb, eqb·suc-zero}
@@ -189,3 +190,21 @@ pub reproduces-agrees : (M : Machine) (is ys : List ℕ) → length ys ≡ lengt
     → agrees (getD ys t 0) (getD (expected M is) t 0) ≡ true
 unfolding reproduces
 reproduces-agrees M is ys same h t inside = matching-agrees (expected M is) ys t h (omega (arith, length-expected M is)) (omega arith)
+
+-- outputs that agree at every step match
+agrees-matching : (gs ys : List ℕ) → length ys ≡ length gs → ((k : ℕ) → k < length gs → agrees (getD ys k 0) (getD gs k 0) ≡ true)
+    → matching gs ys ≡ true
+unfolding matching
+agrees-matching [] ys same each = refl
+agrees-matching (g ∷ gs) [] same each = refl
+agrees-matching (g ∷ gs) (y ∷ ys) same each =
+    rw (each 0 (omega arith)) (agrees-matching gs ys (omega arith) (λ k l. each (suc k) (omega arith)))
+
+-- and one that agrees at every step reproduces it: so a machine reproduces a case exactly if every step agrees
+pub reproduces-exactly : (M : Machine) (is ys : List ℕ) → length ys ≡ length is
+    → (reproduces M is ys ≡ true) ↔ ((t : ℕ) → t < length is → agrees (getD ys t 0) (getD (expected M is) t 0) ≡ true)
+unfolding reproduces
+reproduces-exactly M is ys same = (
+  reproduces-agrees M is ys same,
+  λ each. agrees-matching (expected M is) ys (omega (arith, length-expected M is)) (λ k l. each k (omega (arith, length-expected M is))),
+)

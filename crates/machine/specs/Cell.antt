@@ -1,5 +1,5 @@
 -- The cells of a table as bytes: next state before output, 255 and 255 for undefined (document 01, "Machine", "House files", CELL).
-use Prim.Native.Nat.{ℕ, _+_, _*_, _≤_}
+use Prim.Native.Nat.{ℕ, _+_, _*_, _≤_, _<_}
 use mathlib.Core.Path.{_≡_}
 use mathlib.Core.List.{List}
 use mathlib.Core.Bool.{Bool, not, _&&_, _||_}
@@ -31,6 +31,10 @@ badCell h cells c = not (undefined cells c) && (leb (h .states) (nextByte cells 
 -- the lowest bad cell; the count of the cells where none is bad
 unfoldable pub firstBad : Head → List ℕ → ℕ
 firstBad h cells = first (badCell h cells) 0 (cellCount h)
+
+-- two lists of bytes hold the same cells of a table: they agree as far as the table goes
+abbrev pub SameCells : Head → List ℕ → List ℕ → Type 0
+SameCells h cells cells′ = (i : ℕ) → i < 2 * cellCount h → getD cells i 0 ≡ getD cells′ i 0
 
 -- what is known of a table that was tested
 pub record TableIn (h : Head) (cells : List ℕ) : Type 0 where

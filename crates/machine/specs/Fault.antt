@@ -52,9 +52,13 @@ changeOf M f = record { cell = f .cell; to = altered (f .kind) (f .value) (M .do
 unfoldable pub under : Machine → Change → Machine
 under M d = record { inputs = M .inputs; does = λ c. cond (eqb c (d .cell)) (d .to) (M .does c) }
 
--- a number's machine: the table's, with the number's one change
+-- a fault's machine: the table's, with the fault's one change
+abbrev pub faulty : Head → List ℕ → Fault → Machine
+faulty h cells x = under (specified h cells) (changeOf (specified h cells) x)
+
+-- a number's machine: that of the fault that it stands for
 unfoldable pub changed : Head → List ℕ → ℕ → Machine
-changed h cells f = under (specified h cells) (changeOf (specified h cells) (faultOf h f))
+changed h cells f = faulty h cells (faultOf h f)
 
 -- the part of a move that a fault of the kind changes
 abbrev pub own : Kind → Move → ℕ
@@ -74,7 +78,7 @@ abbrev pub values : Head → Kind → ℕ
 values h Output = h .outputs
 values h Transfer = h .states
 
--- what is known of a fault that was made of a number
+-- what is known of a fault that was made of a number in use: its cell and its value are in range
 pub record FaultIn (h : Head) (f : Fault) : Type 0 where
   pub cell-in : f .cell < cellCount h
   pub value-in : f .value < values h (f .kind)

@@ -3,6 +3,7 @@ pub mod Head
 pub mod Cell
 pub mod Machine
 pub mod Fault
+pub mod Mutant
 pub mod Case
 pub mod Run
 pub mod Replay

@@ -11,8 +11,8 @@ use native.Mathlib.Nat.{eq-or-lt-of-le, zero-add, add-zero, add-suc, add-assoc}
 use native.Mathlib.Omega.{arith}
 use lib.Dec.{ltb}
 use borrow.Author.Tests.{ltb-true, ltb-false}
-use lib.ListN.{length, getD, set, drop, length-set, length-append, List·getD-append, List·getD-eq-default}
-use lib.Seq.{set-getD, getD-set-same, getD-set-other, getD-append-add, ext-getD, drop-cons}
+use lib.ListN.{length, getD, set, take, drop, length-set, length-append, List·getD-append, List·getD-eq-default}
+use lib.Seq.{set-getD, getD-set-same, getD-set-other, getD-append-add, getD-take, length-take-le, ext-getD, drop-cons}
 use Rattle.shapes.specs.Edit.{edit, KeptFrom, filled}
 
 module _ (f : ℕ → ℕ → ℕ) (at : ℕ) where
@@ -156,6 +156,16 @@ filled-above l at v j h = edit-out-above (λ i old. getD v i 0) at (length v) l 
 pub filled-in : (l : List ℕ) (at : ℕ) (v : List ℕ) (i : ℕ) → i < length v → at + i < length l → getD (filled l at v) (at + i) 0 ≡ getD v i 0
 unfolding filled
 filled-in l at v i h s = edit-in (λ i old. getD v i 0) at (length v) l i h s
+
+-- so what was written at the start of a list is its first part
+pub take-filled : (l v : List ℕ) → length v ≤ length l → take (length v) (filled l 0 v) ≡ v
+take-filled l v room = ext-getD 0 (take (length v) (filled l 0 v)) v long (λ i h. each i (rw long at h))
+  where
+    long : length (take (length v) (filled l 0 v)) ≡ length v
+    long = length-take-le (length v) (filled l 0 v) (rw length-filled room)
+
+    each : (i : ℕ) → i < length v → getD (take (length v) (filled l 0 v)) i 0 ≡ getD v i 0
+    each i h = getD-take (length v) (filled l 0 v) i 0 h ∙ (rw zero-add at (filled-in l 0 v i h (omega arith)))
 
 -- a list written, and then another right after it, is both written as one
 pub filled-append : (l : List ℕ) (at : ℕ) (v w : List ℕ) → filled (filled l at v) (at + length v) w ≡ filled l at (v ++ w)

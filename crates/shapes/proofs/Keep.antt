@@ -4,8 +4,8 @@
 use Prim.Native.Nat.{ℕ, zero, suc, _+_, _≤_, _<_}
 use mathlib.Core.Path.{_≡_, refl, sym}
 use mathlib.Core.List.{List, [], _∷_, _++_, append-nil}
-use mathlib.Core.Bool.{Bool, true, false, not, _&&_, _||_}
-use mathlib.Core.Logic.{_⊎_, inl, inr}
+use mathlib.Core.Bool.{Bool, true, false, not, _&&_, _||_, false≢true}
+use mathlib.Core.Logic.{_⊎_, inl, inr, _↔_}
 use native.Mathlib.Nat.{eq-or-lt-of-le, zero-add}
 use native.Mathlib.Numerals.{add-one}
 use native.Mathlib.Omega.{arith}
@@ -14,7 +14,8 @@ use lib.ListN.{length, getD, length-append, List·getD-append}
 use lib.Seq.{getD-append-seam}
 use mir.Val.{boolByte}
 use borrow.Author.Tests.{eqb-true, eqb-false, eq-eqb, ne-eqb, lt-ltb, le-ltb, ltb-true, ltb-false}
-use Rattle.shapes.specs.Keep.{keepIf, keepTo, has, bit, count, every, Rising}
+use Rattle.shapes.specs.Keep.{keepIf, keepTo, has, bit, count, every, some, Among, Rising}
+use Rattle.shapes.proofs.Tests.{and-true}
 
 -- one number more to test
 pub keep-more : (p : ℕ → Bool) (n : ℕ) → keepTo p (n + 1) ≡ keepTo p n ++ keepIf (p n) n
@@ -112,6 +113,28 @@ kept-rising p (suc n) i j h k = go (p n) (kept-rising p n i j h) (kept-below p n
             rw (List·getD-append (keepTo p n) (n ∷ []) 0 i m, List·getD-append (keepTo p n) (n ∷ []) 0 j l) (rest l)
     go false rest low k = rw append-nil (rest (rw append-nil at k))
 
+-- what is true is true or-ed with anything
+or-right : (a b : Bool) → b ≡ true → (a || b) ≡ true
+or-right true b e = refl
+or-right false b e = e
+
+-- a number is among numbers exactly if it stands at one of their places
+pub has-at : (x : ℕ) (l : List ℕ) → (has x l ≡ true) ↔ ((i : ℕ) × ((i < length l) × (getD l i 0 ≡ x)))
+unfolding has
+has-at x [] = (λ e. absurd (false≢true e), λ h. absurd (omega (arith, h .1 .0)))
+has-at x (y ∷ l) = (λ e. there (has-at x l .0) (eqb x y) refl e, λ h. back (has-at x l .1) (h .0) (h .1 .0) (h .1 .1))
+  where
+    At : Type 0
+    At = (i : ℕ) × ((i < length l) × (getD l i 0 ≡ x))
+
+    there : (has x l ≡ true → At) → (b : Bool) → eqb x y ≡ b → (b || has x l) ≡ true → (i : ℕ) × ((i < suc (length l)) × (getD (y ∷ l) i 0 ≡ x))
+    there rest true h e = (zero, (omega arith, sym (eqb-true x y h)))
+    there rest false h e = let r = rest e in (suc (r .0), (omega (arith, r .1 .0), r .1 .1))
+
+    back : (At → has x l ≡ true) → (i : ℕ) → i < suc (length l) → getD (y ∷ l) i 0 ≡ x → (eqb x y || has x l) ≡ true
+    back rest zero h e = rw (eq-eqb x y (sym e))
+    back rest (suc i) h e = or-right (eqb x y) (has x l) (rest (i, (omega arith, e)))
+
 -- a truth value, cast to a number by the code, is 1 for true and 0 for false
 pub bit-told : {r b : Bool} → r ≡ b → (boolByte r ≡ bit b) × (boolByte r ≤ 1)
 bit-told {r} {b} e = rw e (go b)
@@ -147,3 +170,30 @@ module _ {A : Type 0} (p : A → Bool) where
           → (b && every p l) ≡ eqb (bit (not b) + count (λ x. not (p x)) l) 0
       go true e = rw zero-add e
       go false e = sym (ne-eqb (1 + count (λ x. not (p x)) l) 0 (λ h. omega arith))
+
+  -- it holds for every one exactly if it holds for each of them
+  pub every-among : (l : List A) → (every p l ≡ true) ↔ ((x : A) → Among x l → p x ≡ true)
+  unfolding every
+  every-among [] = (λ e x h. absurd h, λ each. refl)
+  every-among (y ∷ l) = (λ e. let b = and-true (p y) (every p l) e in there (b .0) (every-among l .0 (b .1)), λ each. rw (each y (inl refl)) (every-among l .1 (λ x h. each x (inr h))))
+    where
+      there : p y ≡ true → ((x : A) → Among x l → p x ≡ true) → (x : A) → (x ≡ y) ⊎ Among x l → p x ≡ true
+      there here rest x (inl h) = rw h here
+      there here rest x (inr h) = rest x h
+
+  -- and for some exactly if it holds for one of them
+  pub some-among : (l : List A) → (some p l ≡ true) ↔ ((x : A) × (Among x l × (p x ≡ true)))
+  unfolding some
+  some-among [] = (λ e. absurd (false≢true e), λ h. absurd (h .1 .0))
+  some-among (y ∷ l) = (λ e. there (some-among l .0) (p y) refl e, λ h. back (some-among l .1) (h .0) (h .1 .0) (h .1 .1))
+    where
+      One : Type 0
+      One = (x : A) × (Among x l × (p x ≡ true))
+
+      there : (some p l ≡ true → One) → (b : Bool) → p y ≡ b → (b || some p l) ≡ true → (x : A) × (((x ≡ y) ⊎ Among x l) × (p x ≡ true))
+      there rest true h e = (y, (inl refl, h))
+      there rest false h e = let r = rest e in (r .0, (inr (r .1 .0), r .1 .1))
+
+      back : (One → some p l ≡ true) → (x : A) → (x ≡ y) ⊎ Among x l → p x ≡ true → (p y || some p l) ≡ true
+      back rest x (inl h) e = let q : p y ≡ true = rw h at e in rw q
+      back rest x (inr h) e = or-right (p y) (some p l) (rest (x, (h, e)))

@@ -1,5 +1,7 @@
 -- The numbers at which a test holds, and how many of a list it holds for.
 use Prim.Native.Nat.{ℕ, zero, suc, _+_, _<_}
+use mathlib.Core.Path.{_≡_}
+use mathlib.Core.Logic.{_⊎_}
 use mathlib.Core.List.{List, [], _∷_, _++_}
 use mathlib.Core.Bool.{Bool, true, false, _&&_, _||_}
 use lib.Dec.{eqb}
@@ -38,6 +40,11 @@ every p (x ∷ xs) = p x && every p xs
 unfoldable pub some : {A : Type 0} → (A → Bool) → List A → Bool
 some p [] = false
 some p (x ∷ xs) = p x || some p xs
+
+-- one of a list
+abbrev pub Among : {A : Type 0} → A → List A → Type 0
+Among x [] = ⊥
+Among x (y ∷ ys) = (x ≡ y) ⊎ Among x ys
 
 -- numbers that rise strictly
 abbrev pub Rising : List ℕ → Type 0

@@ -31,31 +31,31 @@ use Rattle.house.proofs.cases.check_cases.Reads as check-cases-reads
 pub wrote-one : {r s : Answer} {l k : List ℕ} → wrote r l ≡ wrote s k → (r ≡ s) × (l ≡ k)
 wrote-one e = (cc, cc)
 
-refusal-number-one : OneAnswer refusal-number-kinds.ps refusal-number-kinds.r refusal-number-reads.Post
+pub refusal-number-one : OneAnswer refusal-number-kinds.ps refusal-number-kinds.r refusal-number-reads.Post
 refusal-number-one κs a z z′ ws ws′ p q = (p ∙ sym q, refl)
 
-refusal-carried-one : OneAnswer refusal-carried-kinds.ps refusal-carried-kinds.r refusal-carried-reads.Post
+pub refusal-carried-one : OneAnswer refusal-carried-kinds.ps refusal-carried-kinds.r refusal-carried-reads.Post
 refusal-carried-one κs a z z′ ws ws′ p q = (p ∙ sym q, refl)
 
-check-file-one : OneAnswer check-file-kinds.ps check-file-kinds.r check-file-reads.Post
+pub check-file-one : OneAnswer check-file-kinds.ps check-file-kinds.r check-file-reads.Post
 check-file-one κs a z z′ ws ws′ p q = (p ∙ sym q, refl)
 
 put-file-head-one : OneAnswer put-file-head-kinds.ps put-file-head-kinds.r put-file-head-reads.Post
 put-file-head-one κs a z z′ ws ws′ p q = (refl, λ i. ((p ∙ sym q) i, ws .1))
 
-read-table-one : OneAnswer read-table-kinds.ps read-table-kinds.r read-table-reads.Post
+pub read-table-one : OneAnswer read-table-kinds.ps read-table-kinds.r read-table-reads.Post
 read-table-one κs a z z′ ws ws′ p q = (p ∙ sym q, refl)
 
 put-table-head-one : OneAnswer put-table-head-kinds.ps put-table-head-kinds.r put-table-head-reads.Post
 put-table-head-one κs a z z′ ws ws′ p q = (refl, λ i. ((p ∙ sym q) i, ws .1))
 
-read-record-one : OneAnswer read-record-kinds.ps read-record-kinds.r read-record-reads.Post
+pub read-record-one : OneAnswer read-record-kinds.ps read-record-kinds.r read-record-reads.Post
 read-record-one κs a z z′ ws ws′ p q = (p ∙ sym q, refl)
 
 put-case-one : OneAnswer put-case-kinds.ps put-case-kinds.r put-case-reads.Post
 put-case-one κs a z z′ ws ws′ p q = (p .0 ∙ sym (q .0), λ i. ((p .1 ∙ sym (q .1)) i, ws .1))
 
-check-case-one : OneAnswer check-case-kinds.ps check-case-kinds.r check-case-reads.Post
+pub check-case-one : OneAnswer check-case-kinds.ps check-case-kinds.r check-case-reads.Post
 check-case-one κs a z z′ ws ws′ p q = (p ∙ sym q, refl)
 
 check-cases-one : OneAnswer check-cases-kinds.ps check-cases-kinds.r check-cases-reads.Post

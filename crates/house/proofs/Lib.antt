@@ -4,3 +4,4 @@ pub mod Records
 pub mod Places
 pub mod Against
 pub mod Answers
+pub mod Refusing

@@ -2,7 +2,7 @@
 -- Assumes nothing.
 use Prim.Native.Nat.{ℕ, zero, suc, _+_, _-_, _*_, _≤_, _<_}
 use mathlib.Core.Path.{_≡_, refl, sym, ap, _∙_}
-use mathlib.Core.Logic.{_↔_, _⊎_, inl, inr}
+use mathlib.Core.Logic.{_⊎_, inl, inr}
 use mathlib.Core.List.{List, [], _∷_, _++_, append-nil, append-assoc}
 use mathlib.Core.Bool.{Bool, true, false, cond}
 use native.Mathlib.Nat.{zero-add, add-zero, sub-zero}
@@ -14,8 +14,8 @@ use lib.ListN.{length, take, drop, set, length-append, length-drop, take-append-
 use lib.Seq.{length-take-le, drop-cons, drop-drop, take-append-seam, drop-append-add, getD-append-seam, take-at, drop-at}
 use Rattle.shapes.specs.Edit.{filled, placeAfter}
 use Rattle.shapes.proofs.Edit.{filled-one, filled-append}
-use Rattle.shapes.specs.Refusals.{Ruling, fine, refused, ruling, AllFalse, RefusedBy}
-use Rattle.shapes.proofs.Refusals.{ruling-join-refused, ruling-join-fine, ruling-joined, refused-when, fine-when}
+use Rattle.shapes.specs.Refusals.{Ruling, fine, refused, ruling}
+use Rattle.shapes.proofs.Refusals.{ruling-join-refused, ruling-join-fine, ruling-joined, fine-when}
 use Rattle.shapes.proofs.Tests.{and-true}
 use Rattle.machine.specs.Limits.{stepsMost}
 use Rattle.house.specs.File.{version, restAt, fileRules, fileHead, fileOf}
@@ -145,18 +145,6 @@ module _ (file : List ℕ) where
   pub rules-pass : {n : ℕ} → recordRead file ≡ Record n → (ruling (recordRules file) ≡ fine) × (n ≡ countOf (countIn file))
   unfolding recordRead
   rules-pass e = or-counted _ _ e
-
-  -- a record is refused with r exactly if the first of its rules that holds is one of r
-  pub record-refused : (r : Refusal) → (recordRead file ≡ Refused r) ↔ RefusedBy (recordRules file) r
-  unfolding recordRead
-  record-refused r = (
-    λ e. refused-when (recordRules file) r .0 (rules-refuse e),
-    λ h. let e = refused-when (recordRules file) r .1 h in rw e,
-  )
-
-  -- where a record is taken none of its rules holds, and what is answered is the count of its cases
-  pub record-taken : (n : ℕ) → recordRead file ≡ Record n → (AllFalse (recordRules file)) × (n ≡ countOf (countIn file))
-  record-taken n e = let t = rules-pass e in (fine-when (recordRules file) .0 (t .0), t .1)
 
   -- a record that its rules do not refuse is a file that is not refused, and its cases are counted
   pub record-sound : ruling (recordRules file) ≡ fine → (ruling (fileRules version file) ≡ fine) × (countIn file ≡ Cases (countOf (countIn file)))

@@ -1,5 +1,6 @@
 -- The paper's number of each refusal and what it carries (document 01, "Refusal numbers"), and what a list of rules makes a call answer.
 use Prim.Native.Nat.{ℕ}
+use mathlib.Core.Path.{_≡_}
 use mathlib.Core.List.{List}
 use Rattle.shapes.specs.Refusals.{Ruling, fine, refused}
 use Rattle.house.specs.declared.refusal.Refusal.{Refusal}
@@ -34,6 +35,45 @@ carriedOf Slot = 0
 carriedOf Damaged = 0
 carriedOf Record = 0
 carriedOf Number = 0
+
+-- the paper's table, number by number, so that a definition and its code cannot be changed alike (`proofs/Refusing.antt: paper-refusals`)
+pub record PaperRefusals : Type 0 where
+  -- "1 SHORT"
+  pub short-number : (n : ℕ) → numberOf (Short n) ≡ 1
+  -- "2 VERSION"
+  pub version-number : numberOf Version ≡ 2
+  -- "3 LENGTH"
+  pub length-number : numberOf Length ≡ 3
+  -- "4 SIZE"
+  pub size-number : numberOf Size ≡ 4
+  -- "5 CELL"
+  pub cell-number : (c : ℕ) → numberOf (Cell c) ≡ 5
+  -- "6 STEP"
+  pub step-number : numberOf Step ≡ 6
+  -- "7 FULL"
+  pub full-number : numberOf Full ≡ 7
+  -- "8 SLOT"
+  pub slot-number : numberOf Slot ≡ 8
+  -- "9 DAMAGED"
+  pub damaged-number : numberOf Damaged ≡ 9
+  -- "10 RECORD"
+  pub record-number : numberOf Record ≡ 10
+  -- "11 NUMBER"
+  pub number-number : numberOf Number ≡ 11
+  -- "SHORT .. carries the count of entries or bytes needed"
+  pub short-carries : (n : ℕ) → carriedOf (Short n) ≡ n
+  -- "CELL's cell"
+  pub cell-carries : (c : ℕ) → carriedOf (Cell c) ≡ c
+  -- "A refusal carries 0 beside its number, except" these two
+  pub version-carries : carriedOf Version ≡ 0
+  pub length-carries : carriedOf Length ≡ 0
+  pub size-carries : carriedOf Size ≡ 0
+  pub step-carries : carriedOf Step ≡ 0
+  pub full-carries : carriedOf Full ≡ 0
+  pub slot-carries : carriedOf Slot ≡ 0
+  pub damaged-carries : carriedOf Damaged ≡ 0
+  pub record-carries : carriedOf Record ≡ 0
+  pub number-carries : carriedOf Number ≡ 0
 
 -- a call that only checks answers what its rules say
 abbrev pub checked : Ruling Refusal → Checked-type.Checked

@@ -5,5 +5,5 @@ use Rattle.shapes.specs.OneAnswer.{OneAnswer}
 use Rattle.judge.proofs.judge.Kinds as judge-kinds
 use Rattle.judge.proofs.judge.Reads as judge-reads
 
-judge-one : OneAnswer judge-kinds.ps judge-kinds.r judge-reads.Post
+pub judge-one : OneAnswer judge-kinds.ps judge-kinds.r judge-reads.Post
 judge-one κs a z z′ ws ws′ p q = (p ∙ sym q, refl)

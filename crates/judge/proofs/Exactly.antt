@@ -1,33 +1,24 @@
--- What each answer of the judge says: 16 and a number exactly if the first of its rules that holds is a refusal of that number; 1 or 0 exactly if
--- none holds, by whether the number's machine reproduces every case of the record. By clauses on the ruling.
+-- What the judge says where it does not refuse: 1 or 0 exactly if none of its rules holds, by whether the number's machine reproduces every case of
+-- the record. By clauses on the ruling.
 -- Assumes nothing.
-use Prim.Native.Nat.{ℕ, _+_}
+use Prim.Native.Nat.{ℕ}
 use mathlib.Core.Path.{_≡_, refl, sym, _∙_}
 use mathlib.Core.Bool.{Bool, true, false}
 use mathlib.Core.List.{List}
 use mathlib.Core.Logic.{_↔_}
 use native.Mathlib.Omega.{arith}
 use Rattle.shapes.specs.Keep.{bit, has}
-use Rattle.shapes.specs.Refusals.{Ruling, fine, refused, ruling, AllFalse, RefusedBy}
-use Rattle.shapes.proofs.Refusals.{refused-when, fine-when}
+use Rattle.shapes.specs.Refusals.{Ruling, fine, refused, ruling, AllFalse}
+use Rattle.shapes.proofs.Refusals.{fine-when}
 use Rattle.machine.specs.Fault.{isFault}
-use Rattle.house.specs.Refusal.{numberOf}
 use Rattle.house.specs.Table.{headIn, cellsIn}
 use Rattle.house.specs.Cases.{casesIn}
 use Rattle.house.specs.declared.refusal.Refusal.{Refusal}
 use Rattle.diagnosis.specs.Diagnosis.{explainsAll, list}
 use Rattle.diagnosis.proofs.Lists.{listed-exactly}
-use Rattle.judge.specs.Judge.{judgeRules, refusedFrom, judged, judgement}
+use Rattle.judge.specs.Judge.{judgeRules, judged, judgement}
 
--- 1 and 0 are below every refusal
-ruled-refused : (v : Ruling Refusal) (b : Bool) (q : ℕ) → (judged v b ≡ refusedFrom + q) ↔ ((r : Refusal) × ((v ≡ refused r) × (numberOf r ≡ q)))
-ruled-refused fine true q = (λ e. absurd (omega arith), λ h. cc)
-ruled-refused fine false q = (λ e. absurd (omega arith), λ h. cc)
-ruled-refused (refused r) b q = (λ e. (r, (refl, omega arith)), λ h. go (h .0) (h .1 .0) (h .1 .1))
-  where
-    go : (s : Refusal) → _≡_ {A = Ruling Refusal} (refused r) (refused s) → numberOf s ≡ q → refusedFrom + numberOf r ≡ refusedFrom + q
-    go s e d = let same : r ≡ s = cc in rw (same, d)
-
+-- 1 or 0 is answered exactly if no rule refuses, by the test: every refusal is above 1
 ruled-done : (v : Ruling Refusal) (b c : Bool) → (judged v b ≡ bit c) ↔ ((v ≡ fine) × (b ≡ c))
 ruled-done fine true true = (λ e. (refl, refl), λ h. refl)
 ruled-done fine true false = (λ e. absurd (omega arith), λ h. cc)
@@ -37,19 +28,6 @@ ruled-done (refused r) b true = (λ e. absurd (omega arith), λ h. cc)
 ruled-done (refused r) b false = (λ e. absurd (omega arith), λ h. cc)
 
 module _ (table file : List ℕ) (number : ℕ) where
-  -- "else 16 plus the refusal: table, record, STEP, NUMBER in that order"
-  pub judge-refused : (q : ℕ)
-      → (judgement table file number ≡ refusedFrom + q) ↔ ((r : Refusal) × (RefusedBy (judgeRules table file number) r × (numberOf r ≡ q)))
-  unfolding judgement
-  judge-refused q = (
-    λ e.
-        let h = ruled-refused (ruling (judgeRules table file number)) _ q .0 e in
-        (h .0, (refused-when (judgeRules table file number) (h .0) .0 (h .1 .0), h .1 .1)),
-    λ h.
-        ruled-refused (ruling (judgeRules table file number)) _ q .1
-        (h .0, (refused-when (judgeRules table file number) (h .0) .1 (h .1 .0), h .1 .1)),
-  )
-
   -- "1 if that changed machine reproduces the record, 0 if not"
   pub judge-done : (b : Bool)
       → (judgement table file number ≡ bit b)

@@ -47,10 +47,10 @@ is-table-one κs a z z′ ws ws′ p q = (p ∙ sym q, refl)
 is-formed-one : OneAnswer is-formed-kinds.ps is-formed-kinds.r is-formed-reads.Post
 is-formed-one κs a z z′ ws ws′ p q = (p ∙ sym q, refl)
 
-check-room-one : OneAnswer check-room-kinds.ps check-room-kinds.r check-room-reads.Post
+pub check-room-one : OneAnswer check-room-kinds.ps check-room-kinds.r check-room-reads.Post
 check-room-one κs a z z′ ws ws′ p q = (p ∙ sym q, refl)
 
-check-form-one : OneAnswer check-form-kinds.ps check-form-kinds.r check-form-reads.Post
+pub check-form-one : OneAnswer check-form-kinds.ps check-form-kinds.r check-form-reads.Post
 check-form-one κs a z z′ ws ws′ p q = (p ∙ sym q, refl)
 
 store-case-one : OneAnswer store-case-kinds.ps store-case-kinds.r store-case-reads.Post
@@ -65,5 +65,5 @@ store-table-one κs a z z′ ws ws′ p q = (refl, λ i. ((p ∙ sym q) i, ws .1
 clear-tallies-one : OneAnswer clear-tallies-kinds.ps clear-tallies-kinds.r clear-tallies-reads.Post
 clear-tallies-one κs a z z′ ws ws′ p q = (refl, λ i. ((p ∙ sym q) i, ws .1))
 
-check-slot-one : OneAnswer check-slot-kinds.ps check-slot-kinds.r check-slot-reads.Post
+pub check-slot-one : OneAnswer check-slot-kinds.ps check-slot-kinds.r check-slot-reads.Post
 check-slot-one κs a z z′ ws ws′ p q = (p ∙ sym q, refl)

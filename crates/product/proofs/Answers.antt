@@ -8,8 +8,8 @@ use Rattle.product.proofs.five_litre.Reads as five-litre-reads
 use Rattle.product.proofs.eight_litre.Kinds as eight-litre-kinds
 use Rattle.product.proofs.eight_litre.Reads as eight-litre-reads
 
-five-litre-one : OneAnswer five-litre-kinds.ps five-litre-kinds.r five-litre-reads.Post
+pub five-litre-one : OneAnswer five-litre-kinds.ps five-litre-kinds.r five-litre-reads.Post
 five-litre-one κs a z z′ ws ws′ p q = let w = wrote-one (p ∙ sym q) in (w .0, λ i. (w .1 i, ws .1))
 
-eight-litre-one : OneAnswer eight-litre-kinds.ps eight-litre-kinds.r eight-litre-reads.Post
+pub eight-litre-one : OneAnswer eight-litre-kinds.ps eight-litre-kinds.r eight-litre-reads.Post
 eight-litre-one κs a z z′ ws ws′ p q = let w = wrote-one (p ∙ sym q) in (w .0, λ i. (w .1 i, ws .1))

@@ -39,6 +39,12 @@ cells-whole : (m : Product) → take (2 * cellCount (productHead m)) (productCel
 cells-whole FiveLitre = refl
 cells-whole EightLitre = refl
 
+-- its file has as many bytes as are answered
+pub built-in-bytes : (m : Product) → length (tableFile (productHead m) (productCells m)) ≡ tableBytes (productHead m)
+unfolding tableFile tableHeadBytes fileHead
+built-in-bytes FiveLitre = refl
+built-in-bytes EightLitre = refl
+
 -- the file written reads as that table, cell by cell
 pub built-in-reads : (m : Product)
     → (tableRead (tableFile (productHead m) (productCells m)) ≡ Table (productHead m)) × (cellsIn (tableFile (productHead m) (productCells m)) ≡ productCells m)

@@ -5,10 +5,11 @@ use mathlib.Core.List.{List, [], _∷_}
 use lib.Dec.{ltb}
 use lib.ListN.{length}
 use Rattle.shapes.specs.Edit.{filled}
-use Rattle.shapes.specs.Refusals.{when, ruling}
+use Rattle.shapes.specs.Refusals.{Rule, when, ruling}
 use Rattle.machine.specs.declared.head.Head.{Head}
 use Rattle.house.specs.Refusal.{Written, writtenOr}
 use Rattle.house.specs.Table.{tableBytes, tableFile}
+use Rattle.house.specs.declared.refusal.Refusal.{Refusal}
 use Rattle.house.specs.declared.refusal.Refusal.the-variants.{Short}
 use Rattle.product.specs.declared.Product.{Product}
 use Rattle.product.specs.declared.Product.the-variants.{FiveLitre, EightLitre}
@@ -32,8 +33,10 @@ productCells EightLitre =
     ∷ 2 ∷ 2 ∷ 4 ∷ 4 ∷ 1 ∷ 0
     ∷ 4 ∷ 0 ∷ 255 ∷ 255 ∷ 0 ∷ 0 ∷ []
 
--- what writing a product's table answers and leaves: SHORT with the bytes needed, or its table file, the tail untouched
+-- the one refusal of writing a product's table: SHORT with the bytes needed
+abbrev pub writeRules : Product → List ℕ → List (Rule Refusal)
+writeRules m out = when (ltb (length out) (tableBytes (productHead m))) (Short (tableBytes (productHead m))) ∷ []
+
+-- what writing it answers and leaves: the bytes written and its table file, the tail untouched
 unfoldable pub written : Product → List ℕ → Written
-written m out =
-    writtenOr (ruling (when (ltb (length out) (tableBytes (productHead m))) (Short (tableBytes (productHead m))) ∷ [])) (tableBytes (productHead m)) out
-    (filled out 0 (tableFile (productHead m) (productCells m)))
+written m out = writtenOr (ruling (writeRules m out)) (tableBytes (productHead m)) out (filled out 0 (tableFile (productHead m) (productCells m)))

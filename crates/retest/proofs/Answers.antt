@@ -10,8 +10,8 @@ use Rattle.retest.proofs.pick_refusal.Kinds as pick-refusal-kinds
 use Rattle.retest.proofs.pick_refusal.Reads as pick-refusal-reads
 
 -- the part handed back: where it begins, and what is read through it
-pick-one : OneReading {A = (ℕ × ℕ) × List ℕ} pick-kinds.ps pick-kinds.r (λ κs z. (z .ptr, z .now)) pick-reads.Post
+pub pick-one : OneReading {A = (ℕ × ℕ) × List ℕ} pick-kinds.ps pick-kinds.r (λ κs z. (z .ptr, z .now)) pick-reads.Post
 pick-one κs a z z′ ws ws′ p q = ((λ i. ((p .1 ∙ sym (q .1)) i, (p .0 ∙ sym (q .0)) i)), refl)
 
-pick-refusal-one : OneAnswer pick-refusal-kinds.ps pick-refusal-kinds.r pick-refusal-reads.Post
+pub pick-refusal-one : OneAnswer pick-refusal-kinds.ps pick-refusal-kinds.r pick-refusal-reads.Post
 pick-refusal-one κs a z z′ ws ws′ p q = (p ∙ sym q, refl)

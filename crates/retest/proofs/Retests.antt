@@ -14,9 +14,9 @@ use lib.Dec.{eqb, leb}
 use lib.ListN.{length, getD, take, drop, length-drop, drop-of-length-le}
 use lib.Seq.{length-take-le, drop-cons, getD-take, getD-drop}
 use Rattle.shapes.specs.Keep.{some}
-use Rattle.shapes.specs.Refusals.{when, Ruling, ruling, fine, refused, AllFalse, RefusedBy}
+use Rattle.shapes.specs.Refusals.{when, Ruling, ruling, fine, refused}
 use Rattle.shapes.proofs.Tests.{and-true, or-false}
-use Rattle.shapes.proofs.Refusals.{refused-when, fine-when, ruling-here, ruling-past, ruling-end, ruling-join-refused, ruling-join-fine, ruling-joined}
+use Rattle.shapes.proofs.Refusals.{fine-when, ruling-here, ruling-past, ruling-end, ruling-join-refused, ruling-join-fine, ruling-joined}
 use Rattle.machine.specs.Case.{Case, noCase}
 use Rattle.house.specs.Refusal.{numberOf}
 use Rattle.house.specs.File.{restAt}
@@ -349,11 +349,3 @@ module _ (a b : List ℕ) (position : ℕ) where
   pub number-fine : ruling (retestRules a b position) ≡ fine → retestNumber a b position ≡ 0
   unfolding retestNumber
   number-fine e = rw e
-
-  -- the number is that of the first rule whose test is true
-  pub retest-number : (r : Refusal) → RefusedBy (retestRules a b position) r → retestNumber a b position ≡ numberOf r
-  retest-number r h = number-refused (refused-when _ r .1 h)
-
-  -- and 0 where none is
-  pub retest-none : AllFalse (retestRules a b position) → retestNumber a b position ≡ 0
-  retest-none h = number-fine (fine-when _ .1 h)

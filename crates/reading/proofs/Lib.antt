@@ -1,6 +1,5 @@
 pub mod Listed
-pub mod Saved
+pub mod Told
 pub mod Shown
-pub mod Exactly
 pub mod Answers
 pub mod Tails

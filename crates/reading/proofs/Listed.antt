@@ -1,7 +1,7 @@
 -- What the calls that read a session say of their definitions: the listed numbers one by one, the held cases place by place, and each
 -- call's answer from its checks. Assumes nothing.
 use Prim.Native.Nat.{ℕ, zero, suc, _+_, _-_, _≤_, _<_}
-use mathlib.Core.Path.{_≡_, refl, sym, ap, _∙_}
+use mathlib.Core.Path.{_≡_, refl, sym, _∙_}
 use mathlib.Core.List.{List, [], _∷_, _++_, append-nil}
 use mathlib.Core.Bool.{Bool, true, false, not, _&&_, _||_}
 use mathlib.Core.Logic.{_⊎_, inl, inr}
@@ -14,40 +14,34 @@ use lib.ListN.{length, getD, set, length-append}
 use mir.Val.{boolByte}
 use Rattle.shapes.specs.First.{first}
 use Rattle.shapes.specs.Edit.{filled}
-use Rattle.shapes.specs.Keep.{keepIf, keepTo, has, count, some}
+use Rattle.shapes.specs.Keep.{keepIf, keepTo, count, some}
 use Rattle.shapes.specs.Refusals.{ruling}
 use Rattle.shapes.proofs.Edit.{length-filled, filled-one, filled-append}
 use Rattle.shapes.proofs.Keep.{keep-more, bit-told}
 use Rattle.shapes.proofs.Refusals.{ruling-join-refused, ruling-join-fine}
 use Rattle.machine.specs.Head.{numbers}
 use Rattle.machine.specs.Machine.{specified}
-use Rattle.machine.specs.Fault.{cellOf}
 use Rattle.machine.specs.Case.{Case}
-use Rattle.machine.specs.Run.{symptomsOf}
 use Rattle.machine.specs.declared.head.Head.{Head}
-use Rattle.machine.specs.declared.replay.Symptoms.{Symptoms}
 use Rattle.house.specs.Refusal.{checked}
 use Rattle.house.specs.declared.refusal.Checked.the-variants.{Fine, Refused}
 use Rattle.house.specs.declared.refusal.Refusal.{Refusal}
 use Rattle.house.specs.declared.refusal.Refusal.the-variants.{Short}
 use Rattle.house.proofs.Forms.{checked-fine, checked-refused}
-use Rattle.diagnosis.specs.Diagnosis.{fails, misses, tally, list, someFails, verdictOf, isCandidate}
+use Rattle.diagnosis.specs.Diagnosis.{fails, misses, tally, list, someFails, verdictOf}
 use Rattle.diagnosis.specs.declared.Verdict.{Verdict}
 use Rattle.diagnosis.specs.declared.Verdict.the-variants as verdicts
 use Rattle.diagnosis.proofs.Lists.{list-by-tallies}
-use Rattle.diagnosis.proofs.Candidates.{candidate-law}
 use Rattle.memory.specs.Layout.{headOf, cellsOf, isHeld, caseOf, caseIf, casesAt, heldTo, cases}
-use Rattle.memory.specs.Form.{Formed, formRules, slotRules}
+use Rattle.memory.specs.Form.{formRules}
 use Rattle.memory.specs.Loops.{readPlace}
-use Rattle.session.specs.Tallies.{TrueTallies}
-use Rattle.reading.specs.Reads.{machineOf, listOf, verdictIn, listRules, listed, listCall, falseTally, auditCall, symptomsCall, isListedBy}
+use Rattle.tallies.specs.Tallies.{TrueTallies}
+use Rattle.reading.specs.Reads.{listOf, verdictIn, listRules, listed, listCall, falseTally, auditCall, isListedBy}
 use Rattle.reading.specs.Loops.{verdictBy, failsAt}
 use Rattle.memory.specs.declared.layout.Place.{Place}
 use Rattle.reading.specs.declared.list.Listing.the-variants as listings
 use Rattle.reading.specs.declared.audit.Audited.the-variants as audits
-use Rattle.reading.specs.declared.conflicts.Shown.the-variants as shows
-use Rattle.memory.proofs.Formed.{cases-good}
-use Rattle.memory.proofs.Known.{caseRead, parts-case, parts-read}
+use Rattle.memory.proofs.Known.{caseRead, parts-case}
 
 -- a number more that is kept counts as one, else as none
 pub keep-counted : (p : ℕ → Bool) (n m : ℕ) {r : Bool} → r ≡ p n → m ≡ length (keepTo p n) → m + boolByte r ≡ length (keepTo p (n + 1))
@@ -135,12 +129,6 @@ pub list-by-replay : (s t : List ℕ) → TrueTallies s t → listOf s t ≡ lis
 unfolding listOf
 list-by-replay s t k = list-by-tallies (headOf s) (cellsOf s) (cases s) (λ f. getD t f 0) k
 
--- so "where some case fails .., the cell of every listed fault is a candidate", in any well-formed session whose tallies are true
-pub candidate-listed : (s t : List ℕ) (f : ℕ) → Formed s t → TrueTallies s t → someFails (headOf s) (cellsOf s) (cases s) ≡ true
-    → has f (listOf s t) ≡ true → isCandidate (machineOf s) (cases s) (cellOf (headOf s) f) ≡ true
-candidate-listed s t f k true-tallies bad here =
-    candidate-law (headOf s) (cellsOf s) (cases s) f (cases-good s t k) bad (ap (has f) (sym (list-by-replay s t true-tallies)) ∙ here)
-
 -- a test holds for some of two lists exactly if it does for some of either
 some-append : {A : Type 0} (p : A → Bool) (l r : List A) → some p (l ++ r) ≡ (some p l || some p r)
 unfolding some
@@ -219,17 +207,12 @@ module _ (s : List ℕ) (p : ℕ) {here : Place} (e : here ≡ readPlace s p) {h
       → r ≡ failsAt s p
   failing-told d k = rw k (d ∙ rw (parts-case s p e, same))
 
-  -- whether a number's machine misses it,
+  -- and whether a number's machine misses it
   pub missed-told : (f : ℕ) {r : Bool} → r ≡ misses h (cellsOf s) f (caseRead s here) → isHeld s p ≡ true
       → (boolByte r ≡ tally (headOf s) (cellsOf s) (casesAt s p) f) × (boolByte r ≤ 1)
   unfolding tally count
   missed-told f d k =
       let told : _ ≡ misses (headOf s) (cellsOf s) f (caseOf s p) = d ∙ rw (parts-case s p e, same) in rw (k, add-zero) (bit-told told)
-
-  -- and its symptoms
-  pub symptoms-told : {x : Symptoms} → x ≡ symptomsOf (specified h (cellsOf s)) (caseRead s here .inputs) (caseRead s here .outputs)
-      → x ≡ symptomsOf (machineOf s) (caseOf s p .inputs) (caseOf s p .outputs)
-  symptoms-told d = d ∙ rw (same, parts-read s p e .0, parts-read s p e .1)
 
 -- some case fails and something is listed: a fault is found
 pub verdict-found : (n : ℕ) → (n ≡ 0 → ⊥) → verdicts.Found ≡ verdictBy true n
@@ -277,15 +260,3 @@ module _ (s t : List ℕ) where
     pub audit-true : n ≤ f → audits.True ≡ auditCall s t
     unfolding auditCall
     audit-true l = rw (checked-fine (ruling (formRules s t)) fit, ← found, ← all, le-ltb f n l)
-
-  module _ (p : ℕ) where
-    -- symptoms of a place that is refused are refused so,
-    pub symptoms-refused : {r : Refusal} → checked (ruling (slotRules s t p)) ≡ Refused r → shows.Refused r ≡ symptomsCall s t p
-    unfolding symptomsCall
-    symptoms-refused e = rw (checked-refused (ruling (slotRules s t p)) e)
-
-    -- and else they are shown
-    pub symptoms-shown : {x : Symptoms} → checked (ruling (slotRules s t p)) ≡ Fine
-        → x ≡ symptomsOf (machineOf s) (caseOf s p .inputs) (caseOf s p .outputs) → shows.Symptoms x ≡ symptomsCall s t p
-    unfolding symptomsCall
-    symptoms-shown fit d = rw (checked-fine (ruling (slotRules s t p)) fit, d)

@@ -1,33 +1,27 @@
--- The calls that read a session (document 01, "Symptoms, conflict sets, verdict", "Session memory"): each is its rules in the paper's order, an
+-- The list and the audit of a session (document 01, "Symptoms, conflict sets, verdict", "Session memory"): each is its rules in the paper's order, an
 -- output buffer's SHORT last, and what it answers and writes where none refuses.
-use Prim.Native.Nat.{ℕ}
+use Prim.Native.Nat.{ℕ, _<_}
+use mathlib.Core.Path.{_≡_}
 use mathlib.Core.List.{List, [], _∷_, _++_}
 use mathlib.Core.Bool.{Bool, true, false, not, _&&_}
 use lib.Dec.{eqb, ltb}
 use lib.ListN.{length, getD}
 use Rattle.shapes.specs.First.{first}
-use Rattle.shapes.specs.Edit.{edit, filled}
-use Rattle.shapes.specs.Keep.{keepTo, bit}
+use Rattle.shapes.specs.Edit.{filled}
+use Rattle.shapes.specs.Keep.{keepTo}
 use Rattle.shapes.specs.Refusals.{Rule, when, Ruling, fine, refused, ruling}
-use Rattle.machine.specs.Limits.{cellsMost}
 use Rattle.machine.specs.Head.{numbers}
 use Rattle.machine.specs.Machine.{Machine, specified}
 use Rattle.machine.specs.Fault.{isFault}
-use Rattle.machine.specs.Run.{symptomsOf}
-use Rattle.machine.specs.Case.{Case}
-use Rattle.machine.specs.declared.replay.Symptoms.{Symptoms}
 use Rattle.machine.specs.declared.head.Head.{Head}
-use Rattle.house.specs.Refusal.{Written, writtenOr}
-use Rattle.house.specs.Cases.{recordFile}
 use Rattle.house.specs.declared.refusal.Refusal.{Refusal}
 use Rattle.house.specs.declared.refusal.Refusal.the-variants.{Short}
-use Rattle.diagnosis.specs.Diagnosis.{tally, someFails, verdictOf, conflictBytes, isCandidate}
+use Rattle.diagnosis.specs.Diagnosis.{tally, someFails, verdictOf}
 use Rattle.diagnosis.specs.declared.Verdict.{Verdict}
-use Rattle.memory.specs.Layout.{headOf, cellsOf, caseOf, cases}
-use Rattle.memory.specs.Form.{formRules, slotRules}
+use Rattle.memory.specs.Layout.{headOf, cellsOf, cases}
+use Rattle.memory.specs.Form.{formRules}
 use Rattle.reading.specs.declared.list.Listing as Listing-type
 use Rattle.reading.specs.declared.audit.Audited as Audited-type
-use Rattle.reading.specs.declared.conflicts.Shown as Shown-type
 
 -- the specified machine of a session's table
 abbrev pub machineOf : List ℕ → Machine
@@ -59,16 +53,15 @@ listedOr (refused r) v n old new = listed (Listing-type.the-variants.Refused r) 
 unfoldable pub listCall : List ℕ → List ℕ → List ℕ → Listed
 listCall s t out = listedOr (ruling (listRules s t out)) (verdictIn s t) (length (listOf s t)) out (filled out 0 (listOf s t))
 
--- "Save writes the held cases by rising place", as a record
-unfoldable pub saveRules : List ℕ → List ℕ → List ℕ → List (Rule Refusal)
-saveRules s t out = formRules s t ++ (when (ltb (length out) (length (recordFile (cases s)))) (Short (length (recordFile (cases s)))) ∷ [])
-
-unfoldable pub saveCall : List ℕ → List ℕ → List ℕ → Written
-saveCall s t out = writtenOr (ruling (saveRules s t out)) (length (recordFile (cases s))) out (filled out 0 (recordFile (cases s)))
-
 -- "An audit answers whether every tally is true, else the lowest number that is false."
 unfoldable pub falseTally : List ℕ → List ℕ → ℕ
 falseTally s t = first (λ f. not (eqb (getD t f 0) (tally (headOf s) (cellsOf s) (cases s) f))) 0 (numbers (headOf s))
+
+-- what it means that number f is that one: f is in use, its tally is not what is counted afresh, and every lower one is
+pub record LowestFalse (s t : List ℕ) (f : ℕ) : Type 0 where
+  pub in-use : f < numbers (headOf s)
+  pub untrue : getD t f 0 ≡ tally (headOf s) (cellsOf s) (cases s) f → ⊥
+  pub lower-true : (g : ℕ) → g < f → getD t g 0 ≡ tally (headOf s) (cellsOf s) (cases s) g
 
 abbrev pub auditIf : Bool → ℕ → Audited-type.Audited
 auditIf true f = Audited-type.the-variants.False f
@@ -80,24 +73,3 @@ auditOr (refused r) a = Audited-type.the-variants.Refused r
 
 unfoldable pub auditCall : List ℕ → List ℕ → Audited-type.Audited
 auditCall s t = auditOr (ruling (formRules s t)) (auditIf (ltb (falseTally s t) (numbers (headOf s))) (falseTally s t))
-
--- "For a place, the answer is the count of differing steps and the first of them (64 if there is none)."
-abbrev pub shownOr : Ruling Refusal → Symptoms → Shown-type.Shown
-shownOr fine x = Shown-type.the-variants.Symptoms x
-shownOr (refused r) x = Shown-type.the-variants.Refused r
-
-unfoldable pub symptomsCall : List ℕ → List ℕ → ℕ → Shown-type.Shown
-symptomsCall s t p = shownOr (ruling (slotRules s t p)) (symptomsOf (machineOf s) (caseOf s p .inputs) (caseOf s p .outputs))
-
--- conflict sets and candidates are 256 bytes, whatever the table's size
-unfoldable pub bytesRules : List ℕ → List (Rule Refusal)
-bytesRules out = when (ltb (length out) cellsMost) (Short 0) ∷ []
-
-unfoldable pub conflictCall : List ℕ → List ℕ → ℕ → List ℕ → Written
-conflictCall s t p out = writtenOr (ruling (slotRules s t p ++ bytesRules out)) 0 out (conflictBytes (machineOf s) (caseOf s p) out)
-
-unfoldable pub candidateBytes : Machine → List Case → List ℕ → List ℕ
-candidateBytes M cs out = edit (λ cell old. bit (isCandidate M cs cell)) 0 cellsMost out
-
-unfoldable pub candidatesCall : List ℕ → List ℕ → List ℕ → Written
-candidatesCall s t out = writtenOr (ruling (formRules s t ++ bytesRules out)) 0 out (candidateBytes (machineOf s) (cases s) out)

@@ -67,10 +67,10 @@ fn write_list(session: &[u8], tallies: &[u16], out: &mut [u16])
     ensures { λ _. ⌜ now (out .exit) ≡ filled (now (out .entry)) 0 (listOf (now (session .entry)) (now (tallies .entry))) ⌝ }
 {
     let head = head_of(session);
-    let numbers = head.numbers();
+    let end = head.numbers();
     let mut count = 0;
     let mut number = 0;
-    while number < numbers {
+    while number < end {
         if is_listed(
             head,
             &session[SESSION_CELLS_AT..PLACES_AT],

@@ -27,7 +27,7 @@ keeps-or fine n s t s′ t′ k done = done refl
 keeps-or (refused r) n s t s′ t′ k done = k
 
 -- a table file that no rule refuses reads as its table
-table-read : (file : List ℕ) → ruling (tableRules file) ≡ fine → tableRead file ≡ Table (headIn file)
+pub table-read : (file : List ℕ) → ruling (tableRules file) ≡ fine → tableRead file ≡ Table (headIn file)
 unfolding tableRead
 table-read file e = rw e
 

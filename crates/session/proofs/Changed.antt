@@ -36,11 +36,11 @@ use Rattle.house.proofs.Against.{case-fine, cases-fine}
 use Rattle.memory.specs.Layout.{placesMost, sessionSize, talliesSize, headOf, cellsOf, caseOf, cases, freePlace}
 use Rattle.memory.specs.Form.{tallyMost, Formed, formRules, isSlot, slotRules}
 use Rattle.session.specs.Calls.{Offer, after, outcomeOr, addRules, addCall, withdrawRules, withdrawCall, amendRules, amendCall, roomForRules, loadRules, loadCall, loadedSession, loadedTallies}
-use Rattle.session.specs.Tallies.{canTake, raised, lowered}
+use Rattle.tallies.specs.Tallies.{canTake, raised, lowered}
 use Rattle.memory.specs.Store.{placed}
 use Rattle.memory.proofs.Formed.{formed-table, formed-tally, table-good, cases-most}
 use Rattle.memory.proofs.Stored.{head-placed, length-placed}
-use Rattle.session.proofs.Tallied.{lowered-in, length-lowered, length-raised}
+use Rattle.tallies.proofs.Tallied.{lowered-in, length-lowered, length-raised}
 use Rattle.memory.proofs.Held.{good-fits, slot-inside, add-count, free-left, formed-numbers}
 use Rattle.session.proofs.Kept.{add-keeps}
 use Rattle.memory.proofs.Known.{told-fine, told-refused, rules-formed, rules-slot, slot-room}

@@ -1,46 +1,51 @@
--- Demand 3: after a start and any list of calls, refused ones among them, the memory shows the model. A call's rules let it pass exactly where
--- the model takes it, so both change or both stay; and what a store changes in the memory is what the model changes.
+-- Demand 3: after a start that answered Done 0 and any list of calls, refused ones among them, the memory shows the model. A call's rules let it
+-- pass exactly where the model takes it, so both change or both stay; what a store changes in the memory is what the model changes; and the
+-- answer says which, with the number that the model tells.
 -- Assumes nothing.
 use Prim.Native.Nat.{ℕ, zero, suc, _+_, _-_, _≤_, _<_}
 use mathlib.Core.Path.{_≡_, refl, sym, ap, subst, _∙_}
 use mathlib.Core.List.{List, [], _∷_, _++_}
-use mathlib.Core.Bool.{Bool, true, false, cond, not, _&&_, true≢false, false≢true}
+use mathlib.Core.Bool.{Bool, true, false, cond, not, _&&_, true≢false}
 use mathlib.Core.Logic.{_↔_}
-use native.Mathlib.Nat.{add-assoc, zero-add}
 use native.Mathlib.Omega.{arith}
 use lib.Dec.{eqb, ltb, leb}
-use lib.ListN.{length, getD, replicate, drop, length-drop, length-replicate}
-use lib.Seq.{length-take-le, getD-take, getD-drop, ext-getD}
+use lib.ListN.{length, getD}
 use borrow.Author.Tests.{eqb-true, eqb-false, lt-ltb, le-ltb, le-leb, lt-leb, ltb-true, ltb-false, leb-true, leb-false}
 use Rattle.shapes.specs.Keep.{every}
 use Rattle.shapes.specs.Refusals.{Rule, when, Ruling, fine, refused, ruling}
 use Rattle.shapes.proofs.First.{first-same}
-use Rattle.shapes.proofs.Edit.{edit-in, length-edit}
-use Rattle.shapes.proofs.Refusals.{fine-when}
+use Rattle.shapes.proofs.Refusals.{through, fine-when, ruling-join-fine, ruling-joined}
 use Rattle.shapes.proofs.Tests.{and-true}
 use Rattle.machine.specs.Head.{numbers}
+use Rattle.machine.specs.Cell.{TableIn}
 use Rattle.machine.specs.Case.{Case, goodCase, allGood, noCase}
 use Rattle.machine.specs.declared.head.Head.{Head}
-use Rattle.house.specs.File.{restAt}
-use Rattle.house.specs.Table.{headIn, cellsIn, tableRules, tableOr, tableRead}
+use Rattle.house.specs.Refusal.{checked}
+use Rattle.house.specs.Table.{headIn, tableRules, tableOr, tableRead}
 use Rattle.house.specs.Cases.{countIn, countOf, recordRules, recordOr, recordRead, casesIn, alone, caseRules, casesRules}
 use Rattle.house.specs.declared.refusal.Refusal.{Refusal}
+use Rattle.house.specs.declared.refusal.Answer.{Answer}
+use Rattle.house.specs.declared.refusal.Answer.the-variants.{Done, Refused}
 use Rattle.house.specs.declared.table.TableFile.the-variants.{Table}
 use Rattle.house.proofs.Tables.{table-taken}
 use Rattle.house.proofs.Against.{case-fine, cases-fine}
 use Rattle.diagnosis.specs.Diagnosis.{tally}
-use Rattle.memory.specs.Layout.{placesMost, sessionCellsAt, cellsRoom, sessionSize, talliesSize, headOf, cellsOf, isHeld, caseOf, caseIf, heldTo, cases, freePlace, casesAt}
+use Rattle.diagnosis.proofs.Same.{tally-same}
+use Rattle.memory.specs.Layout.{placesMost, sessionSize, talliesSize, headOf, cellsOf, isHeld, caseOf, caseIf, heldTo, cases, freePlace, casesAt}
 use Rattle.memory.specs.Form.{Formed, roomRules, formRules, isSlot, slotRules}
-use Rattle.session.specs.Tallies.{TrueTallies, canTake, raised, lowered}
+use Rattle.tallies.specs.Tallies.{TrueTallies, canTake, raised, lowered}
 use Rattle.session.specs.Calls.{Offer, outcomeOr, startRules, startCall, addRules, addCall, withdrawRules, withdrawCall, amendRules, amendCall, loadedSession, loadedTallies, roomForRules, loadRules, loadCall}
 use Rattle.memory.specs.Store.{placed, started, cleared}
-use Rattle.session.specs.History.{Call, start, add, amend, withdraw, load, Memory, memory, left, called, calledAll, Content, free, holds, Model, isHolding, contentCases, casesTo, casesHeld, lowest, put, putAll, withPlaces, cellBytes, startedModel, fitsTable, startOr, loadOr, step, steps, contentOf, Shows}
-use Rattle.memory.proofs.Formed.{cases-most}
-use Rattle.memory.proofs.Known.{room-rules, formed-rules}
+use Rattle.session.specs.History.{Call, start, add, amend, withdraw, load, Memory, memory, answerOf, left, outcomeOf, answered, called, calledAll, Content, free, holds, Model, isHolding, contentCases, casesTo, casesHeld, lowest, put, putAll, withPlaces, startedModel, isTable, isRecord, fitsTable, holdsAt, takes, makes, tells, step, steps, accepted, acceptedAll, contentOf, Shows}
+use Rattle.memory.proofs.Formed.{formed-table, cases-good, cases-most}
+use Rattle.memory.proofs.Checks.{room-known}
+use Rattle.memory.proofs.Known.{room-rules, formed-rules, session-table}
 use Rattle.memory.proofs.Stored.{Fits, no-fits, head-placed, cells-placed, case-placed, held-placed, steps-elsewhere, case-elsewhere}
 use Rattle.memory.proofs.Held.{good-fits, good-fills, slot-inside, places-few, add-count, free-left}
 use Rattle.session.proofs.Kept.{add-keeps, withdraw-keeps, amend-keeps}
-use Rattle.memory.proofs.Started.{start-keeps, started-byte, started-free, table-short, started-table}
+use Rattle.memory.proofs.Started.{start-keeps, started-free, table-short, started-table}
+use Rattle.session.proofs.AllKept.{table-read}
+use Rattle.session.proofs.Outcomes.{outcome-done}
 use Rattle.session.proofs.True.{add-true, true-can-take, withdraw-true, amend-true, start-true}
 
 -- what a memory shows
@@ -52,15 +57,15 @@ abbrev Decides : Ruling Refusal → Bool → Type 0
 Decides fine b = b ≡ true
 Decides (refused r) b = b ≡ false
 
--- whether a ruling is fine
-abbrev isFine : Ruling Refusal → Bool
-isFine fine = true
-isFine (refused r) = false
+-- what is read from a file is a table exactly if its rules let it pass,
+table-decides : (v : Ruling Refusal) (h : Head) → Decides v (isTable (tableOr v h))
+table-decides fine h = refl
+table-decides (refused r) h = refl
 
--- is such a test
-decides-fine : (v : Ruling Refusal) → Decides v (isFine v)
-decides-fine fine = refl
-decides-fine (refused r) = refl
+-- and a record so too
+record-decides : (v : Ruling Refusal) (n : ℕ) → Decides v (isRecord (recordOr v n))
+record-decides fine n = refl
+record-decides (refused r) n = refl
 
 -- one rule lets pass exactly if its test fails
 decides-one : (x b : Bool) (r : Refusal) → x ≡ not b → Decides (ruling (when x r ∷ [])) b
@@ -75,17 +80,16 @@ decides-join [] n a b d e = rw d e
 decides-join (when true r ∷ l) n a b d e = rw d
 decides-join (when false r ∷ l) n a b d e = decides-join l n a b d e
 
--- a call whose rules let it pass exactly if the model takes it changes both or neither
-done-shows : (v : Ruling Refusal) (n : ℕ) (s t s′ t′ : List ℕ) (b : Bool) (m m′ : Model) → Decides v b → Shows s t m
-    → (b ≡ true → Shows s′ t′ m′) → ShowsMemory (left (outcomeOr v n s t s′ t′)) (cond b m′ m)
-done-shows fine n s t s′ t′ b m m′ d k next = rw d (next d)
-done-shows (refused r) n s t s′ t′ b m m′ d k next = rw d k
-
--- what is fine exactly if a test holds is decided by it:
+-- what is fine exactly if a test holds is decided by it,
 decides-from : (v : Ruling Refusal) (b : Bool) → (v ≡ fine) ↔ (b ≡ true) → Decides v b
 decides-from fine b e = e .0 refl
 decides-from (refused r) true e = let z = e .1 refl in cc
 decides-from (refused r) false e = refl
+
+-- and what is decided by a test is fine exactly if it holds:
+decides-when : (v : Ruling Refusal) (b : Bool) → Decides v b → (v ≡ fine) ↔ (b ≡ true)
+decides-when fine b d = (λ e. d, λ e. refl)
+decides-when (refused r) b d = (λ e. cc, λ e. absurd (true≢false (sym e ∙ d)))
 
 -- the rules let pass buffers that are long enough,
 room-decides : (s t : List ℕ) → sessionSize ≤ length s → talliesSize ≤ length t → Decides (ruling (roomRules s t)) true
@@ -144,7 +148,7 @@ module _ (s t : List ℕ) (m : Model) (k : Shows s t m) where
   free-shown = first-same _ _ 0 placesMost (λ p a l. ap not (held-shown p (omega arith)))
 
   -- the same places can be withdrawn or amended,
-  slot-shown : (p : ℕ) → (ltb p placesMost && isHolding (m .at p)) ≡ isSlot s p
+  slot-shown : (p : ℕ) → holdsAt m p ≡ isSlot s p
   unfolding isSlot
   slot-shown p = go (ltb p placesMost) refl
     where
@@ -166,7 +170,7 @@ module _ (s t : List ℕ) (m : Model) (k : Shows s t m) where
         formed = form;
         true-tallies = now;
         same-head = head-placed s room p l c fits ∙ k .same-head;
-        same-cells = cells-placed s room p l c fits ∙ k .same-cells;
+        same-cells = λ i h. ap (λ (cells : List ℕ). getD cells i 0) (cells-placed s room p l c fits) ∙ k .same-cells i h;
         same-places = λ q h. go q h (eqb q p) refl;
       }
     where
@@ -225,65 +229,54 @@ load-shows s t m (c ∷ cs) k good few =
     let head = next .same-head ∙ sym (k .same-head) in
     load-shows (placed s (freePlace s) c) (raised s c t) _ cs next (subst (λ (h : Head). allGood h cs ≡ true) (sym head) (g .1)) (omega arith)
 
--- after a start the cells are the file's, zero after those used
-started-cells : (s file : List ℕ) → sessionSize ≤ length s → sessionSize ≤ length (started s file) → cellsOf (started s file) ≡ cellBytes file
-unfolding cellBytes
-started-cells s file room long = ext-getD 0 (cellsOf (started s file)) (cellBytes file) (here ∙ sym there) (λ i h. each i (rw here at h))
-  where
-    here : length (cellsOf (started s file)) ≡ cellsRoom
-    here = length-take-le cellsRoom (drop sessionCellsAt (started s file)) (omega (arith, length-drop sessionCellsAt (started s file)))
-
-    zeros : List ℕ
-    zeros = replicate cellsRoom 0
-
-    wide : length zeros ≡ cellsRoom
-    wide = length-replicate {A = ℕ} cellsRoom 0
-
-    there : length (cellBytes file) ≡ cellsRoom
-    there = length-edit (λ i old. getD (cellsIn file) i 0) 0 cellsRoom zeros ∙ wide
-
-    each : (i : ℕ) → i < cellsRoom → getD (cellsOf (started s file)) i 0 ≡ getD (cellBytes file) i 0
-    each i l =
-        getD-take cellsRoom (drop sessionCellsAt (started s file)) i 0 l
-        ∙ getD-drop sessionCellsAt (started s file) i 0
-        ∙ started-byte s file room (sessionCellsAt + i) (omega arith)
-        ∙ ap (λ (j : ℕ). getD file j 0) (sym (add-assoc restAt sessionCellsAt i))
-        ∙ sym (getD-drop (restAt + sessionCellsAt) file i 0)
-        ∙ sym (rw zero-add at (edit-in (λ i old. getD (cellsIn file) i 0) 0 cellsRoom zeros i l (omega arith)))
-
--- so a session that was started shows the model that its file starts
-started-shows : (s t file : List ℕ) (h : Head) → sessionSize ≤ length s → talliesSize ≤ length t → tableRead file ≡ Table h
-    → Shows (started s file) (cleared t) (startedModel file h)
+-- a session that was started shows the model that its file starts
+started-shows : (s t file : List ℕ) → sessionSize ≤ length s → talliesSize ≤ length t → tableRead file ≡ Table (headIn file)
+    → Shows (started s file) (cleared t) (startedModel file)
 unfolding startedModel contentOf
-started-shows s t file h room rest read =
+started-shows s t file room rest read =
     record {
-      formed = form;
-      true-tallies = start-true s t file h room rest read;
-      same-head = started-table s file h room read .0;
-      same-cells = started-cells s file room (form .session-room);
-      same-places = λ p l. rw (started-free s file room (table-short file h read) p l);
+      formed = start-keeps s t file (headIn file) room rest read;
+      true-tallies = start-true s t file (headIn file) room rest read;
+      same-head = started-table s file (headIn file) room read .0;
+      same-cells = started-table s file (headIn file) room read .1;
+      same-places = λ p l. rw (started-free s file room (table-short file (headIn file) read) p l);
     }
-  where
-    form : Formed (started s file) (cleared t)
-    form = start-keeps s t file h room rest read
+
+-- no rule refuses a start exactly if there is room and the file is a table
+start-fine : (s t file : List ℕ)
+    → (ruling (startRules s t file) ≡ fine) ↔ ((sessionSize ≤ length s) × ((talliesSize ≤ length t) × (tableRead file ≡ Table (headIn file))))
+unfolding startRules
+start-fine s t file = (
+  λ e.
+      let j = ruling-joined (roomRules s t) (tableRules file) e in
+      let r = room-known s t (ap checked (j .0)) in
+      (r .0, (r .1, table-read file (j .1))),
+  λ k.
+      ruling-join-fine (roomRules s t) (tableRules file) (room-rules s t (k .0) (k .1 .0))
+      ∙ fine-when (tableRules file) .1 (table-taken file (headIn file) (k .1 .1) .0),
+)
+
+-- a start that answered Done 0 had room and a table file, and else it did not
+pub start-accepted : (s t file : List ℕ)
+    → (answerOf (startCall s t file) ≡ Done 0)
+    ↔ ((sessionSize ≤ length s) × ((talliesSize ≤ length t) × (tableRead file ≡ Table (headIn file))))
+unfolding startCall
+start-accepted s t file =
+    let v = ruling (startRules s t file) in
+    through (outcome-done v 0 0 s t (started s file) (cleared t)) (λ e. start-fine s t file .0 (e .0), λ k. (start-fine s t file .1 k, refl))
+
+-- and such a start shows its model
+pub start-shows : (s t file : List ℕ) → answerOf (startCall s t file) ≡ Done 0 → ShowsMemory (left (startCall s t file)) (startedModel file)
+unfolding startCall
+start-shows s t file e =
+    let k = start-accepted s t file .0 e in rw (start-fine s t file .1 k) (started-shows s t file (k .0) (k .1 .0) (k .1 .1))
 
 -- a start is let pass exactly if its file is a table
 start-decides : (s t file : List ℕ) → sessionSize ≤ length s → talliesSize ≤ length t
-    → Decides (ruling (startRules s t file)) (isFine (ruling (tableRules file)))
-unfolding startRules
+    → Decides (ruling (startRules s t file)) (isTable (tableRead file))
+unfolding startRules tableRead
 start-decides s t file room rest =
-    decides-join (roomRules s t) (tableRules file) true _ (room-decides s t room rest) (decides-fine (ruling (tableRules file)))
-
--- a start that is accepted shows its model
-pub start-shows : (s t file : List ℕ) (h : Head) → sessionSize ≤ length s → talliesSize ≤ length t → tableRead file ≡ Table h
-    → ShowsMemory (left (startCall s t file)) (startedModel file h)
-unfolding startCall
-start-shows s t file h room rest read =
-    go (ruling (startRules s t file)) (rw (fine-when (tableRules file) .1 (table-taken file h read .0)) at (start-decides s t file room rest))
-  where
-    go : (v : Ruling Refusal) → Decides v true → ShowsMemory (left (outcomeOr v 0 s t (started s file) (cleared t))) (startedModel file h)
-    go fine d = started-shows s t file h room rest read
-    go (refused r) d = absurd (true≢false d)
+    decides-join (roomRules s t) (tableRules file) true _ (room-decides s t room rest) (table-decides (ruling (tableRules file)) (headIn file))
 
 -- an add is let pass exactly if the model takes it
 add-decides : (s t : List ℕ) (m : Model) → Shows s t m → (o : Offer)
@@ -306,7 +299,7 @@ slot-decides s t m k p = decides-join (formRules s t) _ true _ (form-decides s t
 
 -- a withdrawal is let pass exactly if the model takes it, since every held case can be taken away;
 withdraw-decides : (s t : List ℕ) (m : Model) → Shows s t m → (p : ℕ)
-    → Decides (ruling (withdrawRules s t p)) (ltb p placesMost && isHolding (m .at p))
+    → Decides (ruling (withdrawRules s t p)) (holdsAt m p)
 unfolding withdrawRules
 withdraw-decides s t m k p =
     rw (slot-shown s t m k p, ← can (isSlot s p) refl)
@@ -318,7 +311,7 @@ withdraw-decides s t m k p =
 
 -- so is an amendment,
 amend-decides : (s t : List ℕ) (m : Model) → Shows s t m → (p : ℕ) (o : Offer)
-    → Decides (ruling (amendRules s t p o)) ((ltb p placesMost && isHolding (m .at p)) && fitsTable m (o .case))
+    → Decides (ruling (amendRules s t p o)) (holdsAt m p && fitsTable m (o .case))
 unfolding amendRules
 amend-decides s t m k p o =
     rw (slot-shown s t m k p, fits-shown s t m k (o .case), ← can (isSlot s p) refl good)
@@ -344,74 +337,169 @@ room-left n k few = go (leb (n + k) placesMost) refl
 -- and a load
 load-decides : (s t : List ℕ) (m : Model) → Shows s t m → (file : List ℕ)
     → Decides (ruling (loadRules s t file))
-    (isFine (ruling (recordRules file)) && (allGood (m .head) (casesIn file) && leb (length (casesHeld m) + length (casesIn file)) placesMost))
-unfolding loadRules roomForRules
+    (isRecord (recordRead file) && (allGood (m .head) (casesIn file) && leb (length (casesHeld m) + length (casesIn file)) placesMost))
+unfolding loadRules roomForRules recordRead
 load-decides s t m k file =
     rw (← shown-cases s t m k, ← k .same-head)
     (decides-join (formRules s t) _ true _ (form-decides s t (k .formed))
-    (decides-join (recordRules file) _ _ _ (decides-fine (ruling (recordRules file)))
+    (decides-join (recordRules file) _ _ _ (record-decides (ruling (recordRules file)) (countOf (countIn file)))
     (decides-join (casesRules (headOf s) alone (casesIn file)) _ _ _ (cases-decide (headOf s) (casesIn file))
     (decides-one _ _ _ (room-left (length (cases s)) (length (casesIn file)) (cases-most s))))))
 
--- the model that a file leaves, by whether the rules let the file pass: for a table,
-start-taken : (v : Ruling Refusal) (h : Head) (file : List ℕ) (m : Model) → startOr (tableOr v h) file m ≡ cond (isFine v) (startedModel file h) m
-start-taken fine h file m = refl
-start-taken (refused r) h file m = refl
+-- a call follows a model: it is let pass exactly if the model takes it, and then it tells what the model tells and leaves what shows what it makes
+record Follows (c : Call) (s t : List ℕ) (m : Model) : Type 0 where
+  said : Ruling Refusal
+  number : ℕ
+  session : List ℕ
+  tallies : List ℕ
+  does : outcomeOf c (memory s t) ≡ outcomeOr said number s t session tallies
+  decided : Decides said (takes c m)
+  told : number ≡ tells c m
+  next : takes c m ≡ true → Shows session tallies (makes c m)
 
--- and for a record
-load-taken : (v : Ruling Refusal) (n : ℕ) (cs : List Case) (m : Model)
-    → loadOr (recordOr v n) cs m
-    ≡ cond (isFine v && (allGood (m .head) cs && leb (length (casesHeld m) + length cs) placesMost)) (withPlaces m (putAll (m .at) cs)) m
-load-taken fine n cs m = refl
-load-taken (refused r) n cs m = refl
+-- every call follows the model that the memory shows
+call-follows : (c : Call) (s t : List ℕ) (m : Model) → Shows s t m → Follows c s t m
+unfolding outcomeOf takes makes tells startCall addCall amendCall withdrawCall loadCall
+call-follows (start file) s t m k =
+    record {
+      said = ruling (startRules s t file);
+      number = _;
+      session = _;
+      tallies = _;
+      does = refl;
+      decided = pass;
+      told = refl;
+      next = λ e. let a = start-fine s t file .0 (decides-when _ _ pass .1 e) in started-shows s t file (a .0) (a .1 .0) (a .1 .1);
+    }
+  where
+    pass : Decides (ruling (startRules s t file)) (isTable (tableRead file))
+    pass = start-decides s t file (k .formed .session-room) (k .formed .tallies-room)
+call-follows (add o) s t m k =
+    record {
+      said = ruling (addRules s t o);
+      number = _;
+      session = _;
+      tallies = _;
+      does = refl;
+      decided = add-decides s t m k o;
+      told = sym (free-shown s t m k);
+      next = λ e.
+          let a = and-true (fitsTable m (o .case)) _ e in
+          add-shows s t m k (o .case) (sym (fits-shown s t m k (o .case)) ∙ a .0)
+          (rw (free-shown s t m k) at (ltb-true (lowest (m .at)) placesMost (a .1)));
+    }
+call-follows (amend p o) s t m k =
+    record {
+      said = ruling (amendRules s t p o);
+      number = _;
+      session = _;
+      tallies = _;
+      does = refl;
+      decided = amend-decides s t m k p o;
+      told = refl;
+      next = λ e.
+          let a = and-true (holdsAt m p) _ e in
+          amend-shows s t m k p (o .case) (sym (slot-shown s t m k p) ∙ a .0) (sym (fits-shown s t m k (o .case)) ∙ a .1);
+    }
+call-follows (withdraw p) s t m k =
+    record {
+      said = ruling (withdrawRules s t p);
+      number = _;
+      session = _;
+      tallies = _;
+      does = refl;
+      decided = withdraw-decides s t m k p;
+      told = refl;
+      next = λ e. withdraw-shows s t m k p (sym (slot-shown s t m k p) ∙ e);
+    }
+call-follows (load file) s t m k =
+    record {
+      said = ruling (loadRules s t file);
+      number = _;
+      session = _;
+      tallies = _;
+      does = refl;
+      decided = load-decides s t m k file;
+      told = refl;
+      next = λ e.
+          let a = and-true (isRecord (recordRead file)) _ e in
+          let b = and-true (allGood (m .head) (casesIn file)) _ (a .1) in
+          load-shows s t m (casesIn file) k (subst (λ (h : Head). allGood h (casesIn file) ≡ true) (sym (k .same-head)) (b .0))
+          (rw (← shown-cases s t m k) at (leb-true (length (casesHeld m) + length (casesIn file)) placesMost (b .1)));
+    }
 
--- a file that the rules let pass is a table
-table-passes : (v : Ruling Refusal) (h : Head) → isFine v ≡ true → tableOr v h ≡ Table h
-table-passes fine h e = refl
-table-passes (refused r) h e = absurd (false≢true e)
+-- a call whose rules let it pass exactly if the model takes it changes both or neither,
+done-shows : (v : Ruling Refusal) (n : ℕ) (s t s′ t′ : List ℕ) (b : Bool) (m m′ : Model) → Decides v b → Shows s t m
+    → (b ≡ true → Shows s′ t′ m′) → ShowsMemory (left (outcomeOr v n s t s′ t′)) (cond b m′ m)
+done-shows fine n s t s′ t′ b m m′ d k next = rw d (next d)
+done-shows (refused r) n s t s′ t′ b m m′ d k next = rw d k
 
--- every call keeps it so, refused or not
-pub call-shows : (c : Call) (s t : List ℕ) (m : Model) → Shows s t m → ShowsMemory (called c (memory s t)) (step c m)
-unfolding called step startCall addCall amendCall withdrawCall loadCall tableRead recordRead
-call-shows (start file) s t m k =
-    let room = k .formed .session-room in
-    let rest = k .formed .tallies-room in
-    rw (start-taken (ruling (tableRules file)) (headIn file) file m)
-    (done-shows (ruling (startRules s t file)) 0 s t (started s file) (cleared t) _ m (startedModel file (headIn file)) (start-decides s t file room rest) k
-    (λ e. started-shows s t file (headIn file) room rest (table-passes (ruling (tableRules file)) (headIn file) e)))
-call-shows (add o) s t m k =
-    done-shows (ruling (addRules s t o)) (freePlace s) s t (placed s (freePlace s) (o .case)) (raised s (o .case) t) _ m _ (add-decides s t m k o) k
-    (λ e. let a = and-true (fitsTable m (o .case)) _ e in
-    add-shows s t m k (o .case) (sym (fits-shown s t m k (o .case)) ∙ a .0) (rw (free-shown s t m k) at (ltb-true (lowest (m .at)) placesMost (a .1))))
-call-shows (amend p o) s t m k =
-    done-shows (ruling (amendRules s t p o)) 0 s t (placed s p (o .case)) (raised s (o .case) (lowered s (caseOf s p) t)) _ m _ (amend-decides s t m k p o) k
-    (λ e. let a = and-true (ltb p placesMost && isHolding (m .at p)) _ e in
-    amend-shows s t m k p (o .case) (sym (slot-shown s t m k p) ∙ a .0) (sym (fits-shown s t m k (o .case)) ∙ a .1))
-call-shows (withdraw p) s t m k =
-    done-shows (ruling (withdrawRules s t p)) 0 s t (placed s p noCase) (lowered s (caseOf s p) t) _ m _ (withdraw-decides s t m k p) k
-    (λ e. withdraw-shows s t m k p (sym (slot-shown s t m k p) ∙ e))
-call-shows (load file) s t m k =
-    rw (load-taken (ruling (recordRules file)) (countOf (countIn file)) (casesIn file) m)
-    (done-shows (ruling (loadRules s t file)) (length (casesIn file)) s t (loadedSession s (casesIn file)) (loadedTallies s (casesIn file) t) _ m _
-    (load-decides s t m k file) k
-    (λ e. let a = and-true (isFine (ruling (recordRules file))) _ e in
-    let b = and-true (allGood (m .head) (casesIn file)) _ (a .1) in
-    load-shows s t m (casesIn file) k (subst (λ (h : Head). allGood h (casesIn file) ≡ true) (sym (k .same-head)) (b .0))
-    (rw (← shown-cases s t m k) at (leb-true (length (casesHeld m) + length (casesIn file)) placesMost (b .1)))))
+-- and by its answer the model changes or stays alike
+done-accepted : (v : Ruling Refusal) (n : ℕ) (s t s′ t′ : List ℕ) (b : Bool) (c : Call) (m : Model) → Decides v b
+    → accepted (answerOf (outcomeOr v n s t s′ t′)) c m ≡ cond b (makes c m) m
+done-accepted fine n s t s′ t′ b c m d = rw d
+done-accepted (refused r) n s t s′ t′ b c m d = rw d
 
--- so do calls one after the other
+module _ (c : Call) (s t : List ℕ) (m : Model) (k : Shows s t m) where
+  -- every call keeps the memory showing the model, refused or not
+  pub call-shows : ShowsMemory (called c (memory s t)) (step c m)
+  unfolding called step
+  call-shows =
+      let f = call-follows c s t m k in
+      rw (f .does) (done-shows (f .said) (f .number) s t (f .session) (f .tallies) (takes c m) m (makes c m) (f .decided) k (f .next))
+
+  -- a call answers Done exactly where the model takes it, with the number that the model tells
+  pub answered-exactly : (n : ℕ) → (answered c (memory s t) ≡ Done n) ↔ ((takes c m ≡ true) × (n ≡ tells c m))
+  unfolding answered
+  answered-exactly n =
+      let f = call-follows c s t m k in
+      let d = decides-when (f .said) (takes c m) (f .decided) in
+      rw (f .does)
+      (through (outcome-done (f .said) (f .number) n s t (f .session) (f .tallies))
+      (λ e. (d .0 (e .0), e .1 ∙ f .told), λ e. (d .1 (e .0), e .1 ∙ sym (f .told))))
+
+  -- so what a call that answered Done makes of the model is the model's step
+  accepted-step : accepted (answered c (memory s t)) c m ≡ step c m
+  unfolding answered step
+  accepted-step =
+      let f = call-follows c s t m k in
+      rw (f .does) (done-accepted (f .said) (f .number) s t (f .session) (f .tallies) (takes c m) c m (f .decided))
+
+  -- where a call is refused the model stays
+  pub refused-step : (r : Refusal) → answered c (memory s t) ≡ Refused r → step c m ≡ m
+  refused-step r e = sym accepted-step ∙ ap (λ (a : Answer). accepted a c m) e
+
+-- calls one after the other keep it so too,
 calls-show : (calls : List Call) (x : Memory) (m : Model) → ShowsMemory x m → ShowsMemory (calledAll calls x) (steps calls m)
 unfolding calledAll steps
 calls-show [] x m k = k
 calls-show (c ∷ cs) (memory s t) m k = calls-show cs (called c (memory s t)) (step c m) (call-shows c s t m k)
 
--- after a start and any list of calls the memory shows the model
-pub history : (s t file : List ℕ) (h : Head) → sessionSize ≤ length s → talliesSize ≤ length t → tableRead file ≡ Table h → (calls : List Call)
-    → ShowsMemory (calledAll calls (left (startCall s t file))) (steps calls (startedModel file h))
-history s t file h room rest read calls = calls-show calls (left (startCall s t file)) (startedModel file h) (start-shows s t file h room rest read)
+-- so the calls that answered Done leave what the model's steps leave
+pub accepted-steps : (calls : List Call) (x : Memory) (m : Model) → ShowsMemory x m → acceptedAll calls x m ≡ steps calls m
+unfolding acceptedAll steps
+accepted-steps [] x m k = refl
+accepted-steps (c ∷ cs) (memory s t) m k =
+    ap (acceptedAll cs (called c (memory s t))) (accepted-step c s t m k)
+    ∙ accepted-steps cs (called c (memory s t)) (step c m) (call-shows c s t m k)
+
+-- after a start that answered Done 0 and any list of calls the memory shows the model
+pub history : (s t file : List ℕ) → answerOf (startCall s t file) ≡ Done 0 → (calls : List Call)
+    → ShowsMemory (calledAll calls (left (startCall s t file))) (steps calls (startedModel file))
+history s t file e calls = calls-show calls (left (startCall s t file)) (startedModel file) (start-shows s t file e)
 
 module _ (s t : List ℕ) (m : Model) (k : Shows s t m) where
+  -- the memory's cells are a table with the model's head,
+  pub shown-table : TableIn (m .head) (cellsOf s)
+  shown-table = session-table s (sym (k .same-head)) (k .formed .session-room) (formed-table s t (k .formed))
+
+  -- and the model's cases can be run against it
+  pub shown-good : allGood (m .head) (casesHeld m) ≡ true
+  shown-good = (λ i. allGood (sym (k .same-head) i) (sym (shown-cases s t m k) i)) ∙ cases-good s t (k .formed)
+
   -- each tally in use counts the held cases that its changed table fails to reproduce
   pub shown-tally : (f : ℕ) → f < numbers (m .head) → getD t f 0 ≡ tally (m .head) (m .cells) (casesHeld m) f
   shown-tally f l =
-      k .true-tallies f (rw (ap numbers (k .same-head)) l) ∙ (λ i. tally (k .same-head i) (k .same-cells i) (shown-cases s t m k i) f)
+      k .true-tallies f (rw (ap numbers (k .same-head)) l)
+      ∙ (λ i. tally (k .same-head i) (cellsOf s) (shown-cases s t m k i) f)
+      ∙ tally-same (m .head) (cellsOf s) (m .cells) shown-table (k .same-cells) (casesHeld m) shown-good f l

@@ -13,11 +13,11 @@ use Rattle.machine.specs.Case.{Case, goodCase, allGood, noCase}
 use Rattle.machine.specs.declared.head.Head.{Head}
 use Rattle.memory.specs.Layout.{placesMost, headOf, caseOf, cases, freePlace}
 use Rattle.memory.specs.Form.{Formed, isSlot}
-use Rattle.session.specs.Tallies.{canTake, raised, lowered}
+use Rattle.tallies.specs.Tallies.{canTake, raised, lowered}
 use Rattle.memory.specs.Store.{placed}
 use Rattle.session.specs.Calls.{loadedSession, loadedTallies}
 use Rattle.memory.proofs.Stored.{Fits, no-fits, head-placed, place-stored, place-cleared}
-use Rattle.session.proofs.Tallied.{raised-out, length-raised, raised-few, lowered-in, lowered-out, length-lowered, can-take-at}
+use Rattle.tallies.proofs.Tallied.{raised-out, length-raised, raised-few, lowered-in, lowered-out, length-lowered, can-take-at}
 use Rattle.memory.proofs.Held.{good-fits, slot-inside, add-count, withdraw-count, amend-count, place-keeps, free-left}
 
 -- an add keeps the form,

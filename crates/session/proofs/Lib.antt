@@ -1,5 +1,3 @@
-pub mod Tallied
-pub mod Tallying
 pub mod Kept
 pub mod True
 pub mod Refused
@@ -7,7 +5,8 @@ pub mod Changed
 pub mod Histories
 pub mod OneCase
 pub mod AllKept
-pub mod Exactly
+pub mod Outcomes
 pub mod Answers
-pub mod Tied
 pub mod Tails
+pub mod Loads
+pub mod Models

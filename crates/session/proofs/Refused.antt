@@ -29,10 +29,10 @@ use Rattle.house.proofs.Records.{cases-counted}
 use Rattle.memory.specs.Layout.{placesMost, sessionSize, talliesSize, headOf, caseOf, cases, freePlace}
 use Rattle.memory.specs.Form.{Formed, roomRules, isSlot}
 use Rattle.session.specs.Calls.{after, startRules, startCall}
-use Rattle.session.specs.Tallies.{canLower, miss, canTake, lowered}
+use Rattle.tallies.specs.Tallies.{canLower, miss, canTake, lowered}
 use Rattle.memory.specs.Store.{started, cleared}
 use Rattle.memory.proofs.Checks.{room-known}
-use Rattle.session.proofs.Tallied.{can-take-at}
+use Rattle.tallies.proofs.Tallied.{can-take-at}
 use Rattle.memory.proofs.Held.{withdraw-count}
 use Rattle.memory.proofs.Known.{told-fine, told-refused}
 

@@ -17,10 +17,10 @@ use Rattle.house.specs.declared.refusal.Refusal.{Refusal}
 use Rattle.memory.specs.Layout.{placesMost, placeSize, sessionSize, talliesSize, caseOf, freePlace, placeAt, placeByte}
 use Rattle.memory.specs.Form.{Formed}
 use Rattle.session.specs.Calls.{outcomeOr, startRules, startCall, addRules, addCall, withdrawRules, withdrawCall, amendRules, amendCall, loadRules, loadCall}
-use Rattle.session.specs.Tallies.{raised, lowered}
+use Rattle.tallies.specs.Tallies.{raised, lowered}
 use Rattle.memory.specs.Store.{placed, started, cleared}
 use Rattle.session.specs.History.{Call, start, add, amend, withdraw, load, Memory, memory, left, called, calledAll}
-use Rattle.session.proofs.Tallied.{raised-out, length-raised, lowered-out, length-lowered}
+use Rattle.tallies.proofs.Tallied.{raised-out, length-raised, lowered-out, length-lowered}
 use Rattle.memory.proofs.Held.{slot-inside, formed-numbers}
 use Rattle.session.proofs.Kept.{load-adds}
 use Rattle.session.proofs.Changed.{add-known, withdraw-known, amend-known, load-known}

@@ -21,11 +21,11 @@ use Rattle.diagnosis.specs.Diagnosis.{misses, tally}
 use Rattle.memory.specs.Layout.{placesMost, sessionSize, talliesSize, headOf, cellsOf, caseOf, cases, freePlace}
 use Rattle.memory.specs.Form.{Formed, isSlot}
 use Rattle.memory.proofs.Started.{started-none, table-short, started-table, cleared-zero}
-use Rattle.session.specs.Tallies.{TrueTallies, miss, canTake, raised, lowered, canLoseBy}
+use Rattle.tallies.specs.Tallies.{TrueTallies, miss, canTake, raised, lowered, canLoseBy}
 use Rattle.memory.specs.Store.{placed, started, cleared}
 use Rattle.memory.proofs.Formed.{free-low}
 use Rattle.memory.proofs.Stored.{Fits, no-fits, head-placed, cells-placed}
-use Rattle.session.proofs.Tallied.{raised-in, lowered-in, length-lowered}
+use Rattle.tallies.proofs.Tallied.{raised-in, lowered-in, length-lowered}
 use Rattle.memory.proofs.Held.{OneMore, length-more, count-more, good-fits, slot-inside, slot-held, cases-taken, cases-free, cases-put, formed-numbers}
 use Rattle.machine.proofs.Sound.{numbers-few}
 

@@ -14,7 +14,7 @@ use Rattle.house.specs.declared.refusal.Refusal.the-variants.{Full, Damaged}
 use Rattle.house.specs.declared.refusal.Answer as Answer-type
 use Rattle.memory.specs.Layout.{placesMost, headOf, caseOf, cases, freePlace}
 use Rattle.memory.specs.Form.{roomRules, formRules, slotRules}
-use Rattle.session.specs.Tallies.{canTake, raised, lowered}
+use Rattle.tallies.specs.Tallies.{canTake, raised, lowered}
 use Rattle.memory.specs.Store.{placed, started, cleared}
 
 -- what a call answers, with what it leaves in the session and in the tallies

@@ -1,3 +1,2 @@
-pub mod Tallies
 pub mod Calls
 pub mod History

@@ -1,8 +1,5 @@
 // The calls that change a session (document 01, "Session memory", Order): start, add, amend, withdraw and load. Each first checks for
 // itself, on shared references, so that a refusal changes nothing.
-use crate::tally::can_lower;
-use crate::tally::lower;
-use crate::tally::raise;
 use house::cases::About;
 use house::cases::RecordFile;
 use house::cases::check_case;
@@ -27,6 +24,9 @@ use memory::store::clear_tallies;
 use memory::store::store_case;
 use memory::store::store_table;
 use shapes::byte;
+use tallies::tally::can_lower;
+use tallies::tally::lower;
+use tallies::tally::raise;
 ghost use mathlib.Core.Path.{_≡_};
 ghost use mathlib.Core.Bool.{true};
 ghost use Prim.Native.Nat.{_+_, _≤_, _<_};
@@ -38,7 +38,7 @@ ghost use Rattle.house.specs.Cases.{recordRules, recordOr, casesIn, countIn, co
 ghost use Rattle.memory.specs.Layout.{placesMost, sessionSize, headOf, caseOf, cases, freePlace};
 ghost use Rattle.memory.specs.Form.{Formed, isSlot};
 ghost use Rattle.memory.specs.Store.{placed};
-ghost use Rattle.session.specs.Tallies.{canTake, raised, lowered};
+ghost use Rattle.tallies.specs.Tallies.{canTake, raised, lowered};
 ghost use Rattle.session.specs.Calls.{after, offered, startRules, startCall, addRules, addCall, withdrawRules, withdrawCall, amendRules, amendCall, roomForRules, loadRules, loadCall, loadedSession, loadedTallies};
 
 // The refusal of a start.

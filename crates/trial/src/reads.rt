@@ -23,13 +23,13 @@ use house::refusal::Answer;
 use machine::head::Head;
 use reading::audit::Audited;
 use reading::audit::audit;
-use reading::conflicts::Shown;
-use reading::conflicts::candidates;
-use reading::conflicts::conflict_set;
-use reading::conflicts::symptoms;
 use reading::list::Listing;
 use reading::list::list;
-use reading::save::save;
+use report::conflicts::Shown;
+use report::conflicts::candidates;
+use report::conflicts::conflict_set;
+use report::conflicts::symptoms;
+use report::save::save;
 use shapes::byte;
 
 // Puts each number.

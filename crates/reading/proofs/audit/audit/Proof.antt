@@ -3,7 +3,7 @@
 use mathlib.Core.Path.{sym, _∙_}
 use borrow.Author.Needs.{needs}
 use Rattle.memory.proofs.Formed.{formed-table}
-use Rattle.session.proofs.Tallying.{count-told}
+use Rattle.tallies.proofs.Tallying.{count-told}
 use Rattle.memory.proofs.Known.{told-fine, rules-formed, session-table}
 use Rattle.reading.proofs.Listed.{audit-refused, audit-false, audit-true}
 use Rattle.reading.proofs.audit.audit.Statement.{statement}

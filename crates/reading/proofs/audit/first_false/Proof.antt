@@ -7,7 +7,7 @@ use native.Mathlib.Omega.{arith}
 use Rattle.shapes.specs.First.{first}
 use Rattle.shapes.proofs.First.{first-turn, first-found, first-ended}
 use Rattle.reading.specs.Reads.{falseTally}
-use Rattle.session.proofs.Tallying.{count-told}
+use Rattle.tallies.proofs.Tallying.{count-told}
 use Rattle.memory.proofs.Known.{session-table}
 use Rattle.reading.proofs.Listed.{falseAt, false-begins, false-here, false-past}
 use Rattle.memory.proofs.Formed.{formed-table, formed-places}

@@ -1,0 +1,4 @@
+pub mod Saved
+pub mod Told
+pub mod Answers
+pub mod Tails

@@ -1,1 +1,5 @@
 pub mod Examples
+pub mod Demand1
+pub mod Demand2
+pub mod Demand3
+pub mod Literals

@@ -1,1 +1,2 @@
-// The page to point at (document 01, "Product tables and numbers to check"): the table of examples, P1 to P10, under one claim. It has no code.
+// The page to point at: demands 1, 2 and 3, each in one statement about the calls' own definitions, the paper's numbers, and the table of its
+// examples, P1 to P10. It has no code.

@@ -94,7 +94,7 @@ use Rattle.reading.specs.Reads.{Listed, listed, listedOr, listRules, listCall, 
 use Rattle.report.specs.Reports.{saveRules, saveCall, shownOr, symptomsCall, bytesRules, conflictCall, candidatesCall}
 use Rattle.reading.specs.declared.list.Listing.the-variants as listings
 use Rattle.reading.proofs.Tails.{ListTail, list-tail}
-use Rattle.report.proofs.Tails.{WrittenTail, save-tail, conflict-tail, candidates-tail}
+use Rattle.report.proofs.Tails.{WrittenTail, save-tail, conflict-tail, candidates-tail, written-tail}
 use Rattle.reading.proofs.Answers.{list-one, audit-one}
 use Rattle.report.proofs.Answers.{save-one, symptoms-one, conflict-set-one, candidates-one}
 use Rattle.reading.proofs.list.list.Kinds as list-kinds
@@ -302,11 +302,6 @@ check-case-obeys h a c = checked-obeys (caseRules h a c)
 -- A product's table: its file has as many bytes as are asked for, so what it fills leaves the tail after them
 product-keeps : (m : Product) (out : List ℕ) → KeptFrom (tableBytes (productHead m)) out (filled out 0 (tableFile (productHead m) (productCells m)))
 product-keeps m out = rw (← built-in-bytes m) (filled-keeps out (tableFile (productHead m) (productCells m)))
-
--- and so does what is left either way
-written-tail : (v : Ruling Refusal) (n needed : ℕ) (old new : List ℕ) → KeptFrom needed old new → WrittenTail needed old (writtenOr v n old new)
-written-tail fine n needed old new kept = kept
-written-tail (refused r) n needed old new kept = refl
 
 write-table-obeys : (m : Product) → WriteTable m (written m)
 unfolding written

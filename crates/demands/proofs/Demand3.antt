@@ -32,7 +32,7 @@ use Rattle.house.proofs.Tables.{table-taken}
 use Rattle.product.specs.Tables.{productHead, productCells}
 use Rattle.product.specs.declared.Product.{Product}
 use Rattle.product.proofs.BuiltIn.{built-in-bytes, built-in-reads, built-in-written}
-use Rattle.diagnosis.specs.Diagnosis.{someFails, verdictOf, list, conflictBytes, isCandidate}
+use Rattle.diagnosis.specs.Diagnosis.{someFails, verdictOf, conflictBytes, isCandidate}
 use Rattle.diagnosis.proofs.Candidates.{candidates-none}
 use Rattle.diagnosis.proofs.Same.{conflicts-same, candidate-same}
 use Rattle.memory.specs.Layout.{placesMost, sessionSize, talliesSize, headOf, cellsOf, caseOf, isHeld}
@@ -44,7 +44,9 @@ use Rattle.session.proofs.Histories.{ShowsMemory, start-accepted, start-shows, 
 use Rattle.session.proofs.Outcomes.{refused-leaves}
 use Rattle.session.proofs.Models.{Whole, started-whole, steps-whole}
 use Rattle.session.proofs.OneCase.{one-case}
-use Rattle.reading.specs.Reads.{listCall}
+use Rattle.reading.specs.Reads.{listed, listCall}
+use Rattle.reading.specs.declared.list.Listing.the-variants.{Faults}
+use Rattle.diagnosis.specs.declared.Verdict.{Verdict}
 use Rattle.report.specs.Reports.{candidateBytes, conflictCall, symptomsCall, candidatesCall, saveCall}
 use Rattle.report.specs.declared.conflicts.Shown.the-variants.{Symptoms}
 use Rattle.reading.proofs.Told.{list-formed}
@@ -53,6 +55,10 @@ use Rattle.reading.proofs.Shown.{shown-list, shown-verdict, shown-audit}
 use Rattle.demands.specs.Demand2.{SomeFails, Suspect, suspects, ListAnswers}
 use Rattle.demands.specs.Demand3.{evidenceLeft, machineLeft, AfterCalls, sessionLeft, RightTable}
 use Rattle.demands.proofs.Demand2.{Sound, passes-exactly, evidence-lists, suspect-candidate}
+
+-- the verdict on a model's cases
+abbrev pub verdictLeft : Model → Verdict
+verdictLeft m = verdictOf (someFails (m .head) (m .cells) (casesHeld m)) (suspects (evidenceLeft m))
 
 -- a place that holds a case in the model is held in the memory, and holds that case
 place-held : (b : Bool) (c d : Case) → cond b (holds c) free ≡ holds d → (b ≡ true) × (c ≡ d)
@@ -77,16 +83,20 @@ module _ (s t : List ℕ) (m : Model) (k : Shows s t m) (w : Whole m) where
       each : (i : ℕ) → i < n → getD (take n (cellsOf s)) i 0 ≡ getD (m .cells) i 0
       each i l = getD-take n (cellsOf s) i 0 l ∙ k .same-cells i l
 
-  -- what the list call answers is demand 2's for the cases held
+  -- the list call answers the verdict on the cases held and leaves their list,
+  pub left-listed : (out : List ℕ) → length (suspects (evidenceLeft m)) ≤ length out
+      → listCall s t out ≡ listed (Faults (verdictLeft m) (length (suspects (evidenceLeft m)))) (filled out 0 (suspects (evidenceLeft m)))
+  left-listed out room =
+      let same = shown-list s t m k in list-formed s t (k .formed) out (rw same room) ∙ rw (shown-verdict s t m k, same)
+
+  -- and this is demand 2's
   left-lists : (out : List ℕ) → length (suspects (evidenceLeft m)) ≤ length out → ListAnswers (evidenceLeft m) out (listCall s t out)
   left-lists out room =
-      let same = shown-list s t m k in
-      let list : List ℕ = suspects (evidenceLeft m) in
       record {
-        verdict = verdictOf (someFails (m .head) (m .cells) (casesHeld m)) list;
-        count = length list;
-        left = filled out 0 list;
-        answered = list-formed s t (k .formed) out (rw same room) ∙ rw (shown-verdict s t m k, same);
+        verdict = verdictLeft m;
+        count = length (suspects (evidenceLeft m));
+        left = filled out 0 (suspects (evidenceLeft m));
+        answered = left-listed out room;
         lists = evidence-lists (evidenceLeft m) left-sound out room;
       }
 

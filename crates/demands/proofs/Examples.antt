@@ -1,14 +1,13 @@
 -- P1 to P10 of document 01 of every session: the memory after a start and calls shows the model that the calls leave (the history theorem), the
 -- calls that read answer what is so of the model, and that is computed. Only here is a run opened above the machine.
 -- Assumes nothing.
-use Prim.Native.Nat.{ℕ, _≤_}
+use Prim.Native.Nat.{ℕ}
 use mathlib.Core.Path.{_≡_, refl, ap, subst, _∙_}
 use mathlib.Core.Bool.{Bool, true, _&&_}
 use mathlib.Core.List.{List, [], _∷_}
 use lib.Dec.{eqb, ltb}
 use lib.ListN.{length, getD}
 use borrow.Author.Tests.{eqb-true, ltb-true}
-use Rattle.shapes.specs.Edit.{filled}
 use Rattle.shapes.specs.First.{first, allTo}
 use Rattle.shapes.specs.Keep.{keepTo, has, bit, count, every, some}
 use Rattle.shapes.specs.Refusals.{refusedIf, ruling}
@@ -28,36 +27,23 @@ use Rattle.house.specs.File.{fileRules, fileHead}
 use Rattle.house.specs.Table.{headIn, badSize, badCells, tableRules, tableRead, tableHeadBytes, tableFile}
 use Rattle.house.specs.declared.refusal.Answer.the-variants.{Done}
 use Rattle.house.specs.declared.table.TableFile.the-variants.{Table}
-use Rattle.diagnosis.specs.Diagnosis.{explains, fails, misses, tally, explainsAll, isListed, list, someFails, verdictOf, conflicts, conflictBytes}
-use Rattle.diagnosis.specs.declared.Verdict.{Verdict}
+use Rattle.diagnosis.specs.Diagnosis.{explains, fails, misses, tally, explainsAll, isListed, list, someFails, conflicts, conflictBytes}
 use Rattle.memory.specs.Layout.{placesMost}
 use Rattle.session.specs.Calls.{startCall}
 use Rattle.session.specs.History.{Call, Memory, holds, Model, casesTo, casesHeld, lowest, startedModel, takes, makes, step, steps, Shows, left, called, tells, memory}
 use Rattle.session.proofs.Histories.{ShowsMemory, start-accepted, history, shown-tally, start-shows, call-shows, answered-exactly}
 use Rattle.session.proofs.Models.{Whole, started-whole, steps-whole}
-use Rattle.reading.specs.Reads.{listed, listCall}
-use Rattle.reading.specs.declared.list.Listing.the-variants.{Faults}
-use Rattle.reading.proofs.Told.{list-formed}
-use Rattle.reading.proofs.Shown.{shown-list, shown-verdict}
-use Rattle.demands.specs.Demand3.{machineLeft}
+use Rattle.demands.specs.Demand3.{evidenceLeft, machineLeft}
 use Rattle.demands.specs.Examples.{InSession, listing, Example, Holds, gives, diagnoses, countsListed, hasConflict, hasTally, allTallies, All, examples, AllDone}
-use Rattle.demands.proofs.Demand3.{left-alike, left-conflicts}
+use Rattle.demands.proofs.Demand3.{verdictLeft, left-listed, left-alike, left-conflicts}
+use Rattle.demands.specs.Demand2.{suspects}
 
--- a model's tallies, its list and its verdict
+-- a model's tallies, and its list
 abbrev tallyLeft : Model → ℕ → ℕ
 tallyLeft m f = tally (m .head) (m .cells) (casesHeld m) f
 
 abbrev listLeft : Model → List ℕ
-listLeft m = list (m .head) (m .cells) (casesHeld m)
-
-abbrev verdictLeft : Model → Verdict
-verdictLeft m = verdictOf (someFails (m .head) (m .cells) (casesHeld m)) (listLeft m)
-
--- where a memory shows a model the list call answers the model's verdict and leaves the model's list
-shown-listed : (s t : List ℕ) (m : Model) → Shows s t m → (out : List ℕ) → length (listLeft m) ≤ length out
-    → listCall s t out ≡ listed (Faults (verdictLeft m) (length (listLeft m))) (filled out 0 (listLeft m))
-shown-listed s t m k out room =
-    let same = shown-list s t m k in list-formed s t (k .formed) out (rw same room) ∙ rw (shown-verdict s t m k, same)
+listLeft m = suspects (evidenceLeft m)
 
 -- what calls leave of the model that a file starts
 abbrev modelLeft : List ℕ → List Call → Model
@@ -130,10 +116,10 @@ row-holds (gives file is ys) (read, good, gave) =
     rw (k .same-head)
     (expected-alike _ _ _ (w .table .head) (left-alike s t _ k w) is (λ i l. ltb-true _ _ (all-at _ (length is) good i l)) ∙ gave))
 row-holds (diagnoses file calls v l) (read, taken, is-verdict, is-list) =
-    in-session file calls read taken _ (λ s t k w out room. shown-listed s t _ k out (rw is-list room) ∙ rw (is-verdict, is-list))
+    in-session file calls read taken _ (λ s t k w out room. left-listed s t _ k w out (rw is-list room) ∙ rw (is-verdict, is-list))
 row-holds (countsListed file calls v n) (read, taken, is-verdict, is-count) =
     in-session file calls read taken _
-    (λ s t k w out room. ap listing (shown-listed s t _ k out (rw is-count room)) ∙ rw (is-verdict, is-count))
+    (λ s t k w out room. ap listing (left-listed s t _ k w out (rw is-count room)) ∙ rw (is-verdict, is-count))
 row-holds (hasConflict file calls p cells) (read, taken, place, (c, here, same)) =
     in-session file calls read taken _
     (λ s t k w out room.

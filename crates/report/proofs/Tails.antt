@@ -24,7 +24,7 @@ WrittenTail n old (wrote (answers.Done m) new) = KeptFrom n old new
 WrittenTail n old (wrote (answers.Refused r) new) = new ≡ old
 
 -- a call that writes bytes leaves the tail that its writing leaves
-written-tail : (v : Ruling Refusal) (m n : ℕ) (old new : List ℕ) → KeptFrom n old new → WrittenTail n old (writtenOr v m old new)
+pub written-tail : (v : Ruling Refusal) (m n : ℕ) (old new : List ℕ) → KeptFrom n old new → WrittenTail n old (writtenOr v m old new)
 written-tail fine m n old new k = k
 written-tail (refused r) m n old new k = refl
 

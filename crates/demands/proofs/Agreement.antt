@@ -7,7 +7,7 @@ use mathlib.Core.Bool.{Bool, true, false, false≢true}
 use mathlib.Core.Logic.{◌↔◌}
 use mathlib.Core.List.{List, []}
 use native.Mathlib.Omega.{arith}
-use borrow.Author.Tests.{lt_leb, leb_true}
+use borrow.Author.Tests.{lt-leb, leb-true}
 use lib.ListN.{length}
 use Rattle.shapes.specs.Keep.{bit, has}
 use Rattle.shapes.specs.Refusals.{Rule, Ruling, fine, refused, ruling, AllFalse}
@@ -58,7 +58,7 @@ unfolding takes started_model record_read
 load_taken table file e =
     let a = and_true (is_record (record_read file)) _ e in
     let b = and_true (all_good (head_in table) (cases_in file)) _ a.1 in
-    let l = leb_true (length (cases_held (started_model table)) + length (cases_in file)) places_most b.1 in
+    let l = leb-true (length (cases_held (started_model table)) + length (cases_in file)) places_most b.1 in
     record { record_fine = is_record_law (ruling (record_rules file)) _ a.0; good = b.0; few = omega arith }
 
 -- so no rule of the judge holds at a number in use
@@ -71,7 +71,7 @@ judge_fine table file read k f l =
     (ruling_join_fine (table_rules table) _ ((fine_when (table_rules table)).1 (table_taken table (head_in table) read).0)
     ∙ ruling_join_fine (record_rules file) _ k.record_fine
     ∙ ruling_join_fine judging _ ((cases_fine (head_in table) alone (cases_in file)).1 k.good)
-    ∙ ruling_past Number [] (lt_leb (numbers (head_in table)) f l)
+    ∙ ruling_past Number [] (lt-leb (numbers (head_in table)) f l)
     ∙ ruling_end)
 
 -- the model that it leaves holds the record's cases, in order,

@@ -7,9 +7,9 @@ use mathlib.Core.Path.{◌≡◌, refl, sym, ap, subst, ◌∙◌}
 use mathlib.Core.Bool.{Bool, true, false, not, ◌&&◌, true≢false}
 use mathlib.Core.Logic.{◌↔◌}
 use mathlib.Core.List.{List, [], ◌∷◌}
-use native.Mathlib.Nat.{zero_add}
+use native.Mathlib.Nat.{zero-add}
 use native.Mathlib.Omega.{arith}
-use borrow.Author.Tests.{lt_ltb, eq_eqb, not_true}
+use borrow.Author.Tests.{lt-ltb, eq-eqb, not-true}
 use lib.ListN.{length, get_or, take}
 use Rattle.shapes.specs.Edit.{filled}
 use Rattle.shapes.specs.Keep.{has, bit, some, Among}
@@ -69,7 +69,7 @@ differs_somewhere M c e = (
 -- the first of some numbers is among them, and among none there is none
 has_head : (f : ℕ) (l : List ℕ) → has f (f ∷ l) ≡ true
 unfolding has
-has_head f l = rw (eq_eqb f f refl)
+has_head f l = rw (eq-eqb f f refl)
 
 has_none : (f : ℕ) → has f [] ≡ false
 unfolding has
@@ -98,7 +98,7 @@ module _ (b : Evidence) (k : Sound b) where
       differs_at c held (t, (inside, differs)) = record { case = c; is_held = held; step = t; in_case = inside; differs = differs }
 
       one_fails : ((c : Case) × (Among c b.held × (fails M c ≡ true))) → SomeFails b
-      one_fails (c, (held, failed)) = differs_at c held (differs_somewhere M c (not_true _ failed))
+      one_fails (c, (held, failed)) = differs_at c held (differs_somewhere M c (not-true _ failed))
 
       there : some (fails M) b.held ≡ true → SomeFails b
       there e = one_fails ((some_among (fails M) b.held).0 e)
@@ -146,7 +146,7 @@ module _ (b : Evidence) (k : Sound b) where
                 record {
                   is_fault_law =
                       record {
-                        in_range = fault_in b.head k.table.head f (lt_ltb _ _ o.0);
+                        in_range = fault_in b.head k.table.head f (lt-ltb _ _ o.0);
                         other_byte = o.1;
                       };
                   gives_all = (all_exactly f o.0 o.1).0 a.1;
@@ -218,7 +218,7 @@ module _ (b : Evidence) (k : Sound b) where
       }
     where
       entry : (i : ℕ) → i < length (suspects b) → get_or (filled out 0 (suspects b)) i 0 ≡ get_or (suspects b) i 0
-      entry i l = rw zero_add at (filled_in out 0 (suspects b) i l (omega arith))
+      entry i l = rw zero-add at (filled_in out 0 (suspects b) i l (omega arith))
 
       stands : (f : ℕ) → ((i : ℕ) × ((i < length (suspects b)) × (get_or (suspects b) i 0 ≡ f))) → Stands f (length (suspects b)) (filled out 0 (suspects b))
       stands f (i, (inside, here)) = record { at = i; within = inside; is_there = entry i inside ∙ here }
@@ -231,7 +231,7 @@ module _ (b : Evidence) (k : Sound b) where
       let on = (suspect_exactly f).1 suspect in
       let is_listed = and_true (is_fault b.head b.cells f) _ (sym (listed_exactly b.head b.cells b.held f) ∙ on) in
       let used = ((fault_exactly b.head b.cells f).0 is_listed.0).0 in
-      let inside = (fault_in b.head k.table.head f (lt_ltb _ _ used)).cell_in in (
+      let inside = (fault_in b.head k.table.head f (lt-ltb _ _ used)).cell_in in (
         candidate_law b.head b.cells b.held f k.good (fails_exactly.1 bad) on,
         omega (arith, inside, cells_few b.head k.table.head),
       )

@@ -6,11 +6,11 @@ use Prim.Native.Nat.{ℕ, ◌*◌, ◌≤◌, ◌<◌}
 use mathlib.Core.Path.{◌≡◌, refl, sym, ap, subst, ◌∙◌}
 use mathlib.Core.Bool.{Bool, true, false, cond}
 use mathlib.Core.List.{List, []}
-use native.Mathlib.Nat.{zero_add}
+use native.Mathlib.Nat.{zero-add}
 use native.Mathlib.Omega.{arith}
-use borrow.Author.Tests.{lt_ltb}
+use borrow.Author.Tests.{lt-ltb}
 use lib.ListN.{length, get_or, take}
-use lib.Seq.{length_take_le, get_or_take, ext_get_or}
+use lib.Seq.{length-take-le, get_or-take, ext_get_or}
 use Rattle.shapes.specs.Edit.{filled}
 use Rattle.shapes.specs.Keep.{bit}
 use Rattle.shapes.proofs.Edit.{edit_in, edit_same, take_filled}
@@ -78,10 +78,10 @@ module _ (s t : List ℕ) (m : Model) (k : Shows s t m) (w : Whole m) where
       n = 2 * cell_count m.head
 
       long : length (take n (cells_of s)) ≡ n
-      long = length_take_le n (cells_of s) (shown_table s t m k).room
+      long = length-take-le n (cells_of s) (shown_table s t m k).room
 
       each : (i : ℕ) → i < n → get_or (take n (cells_of s)) i 0 ≡ get_or m.cells i 0
-      each i l = get_or_take n (cells_of s) i 0 l ∙ k.same_cells i l
+      each i l = get_or-take n (cells_of s) i 0 l ∙ k.same_cells i l
 
   -- the list call answers the verdict on the cases held and leaves their list,
   pub left_listed : (out : List ℕ) → length (suspects (evidence_left m)) ≤ length out
@@ -118,7 +118,7 @@ module _ (s t : List ℕ) (m : Model) (k : Shows s t m) (w : Whole m) where
 
     left_slot : is_slot s p ≡ true
     unfolding is_slot
-    left_slot = rw (lt_ltb p places_most l, left_held.0)
+    left_slot = rw (lt-ltb p places_most l, left_held.0)
 
     -- and can be run
     left_good : good_case m.head c.inputs c.outputs ≡ true
@@ -160,7 +160,7 @@ module _ (s t : List ℕ) (m : Model) (k : Shows s t m) (w : Whole m) where
       → get_or (candidate_bytes (machine_left m) (cases_held m) out) cell 0 ≡ bit (is_candidate (machine_left m) (cases_held m) cell)
   unfolding candidate_bytes
   left_bit out room cell l =
-      rw zero_add at (edit_in (λ c old. bit (is_candidate (machine_left m) (cases_held m) c)) 0 cells_most out cell l (omega arith))
+      rw zero-add at (edit_in (λ c old. bit (is_candidate (machine_left m) (cases_held m) c)) 0 cells_most out cell l (omega arith))
 
   -- so the byte at a listed fault's cell is 1 where some case fails,
   left_byte : (out : List ℕ) → cells_most ≤ length out → SomeFails (evidence_left m) → (f : ℕ) → Suspect (evidence_left m) f

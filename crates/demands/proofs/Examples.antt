@@ -7,7 +7,7 @@ use mathlib.Core.Bool.{Bool, true, ◌&&◌}
 use mathlib.Core.List.{List, [], ◌∷◌}
 use lib.Dec.{eqb, ltb}
 use lib.ListN.{length, get_or}
-use borrow.Author.Tests.{eqb_true, ltb_true}
+use borrow.Author.Tests.{eqb-true, ltb-true}
 use Rattle.shapes.specs.First.{first, all_to}
 use Rattle.shapes.specs.Keep.{keep_to, has, bit, count, every, some}
 use Rattle.shapes.specs.Refusals.{refused_if, ruling}
@@ -114,7 +114,7 @@ row_holds (gives file is ys) (read, good, gave) =
     in_session file [] read refl _
     (λ s t k w.
     rw k.same_head
-    (expected_alike _ _ _ w.table.head (left_alike s t _ k w) is (λ i l. ltb_true _ _ (all_at _ (length is) good i l)) ∙ gave))
+    (expected_alike _ _ _ w.table.head (left_alike s t _ k w) is (λ i l. ltb-true _ _ (all_at _ (length is) good i l)) ∙ gave))
 row_holds (diagnoses file calls v l) (read, taken, is_verdict, is_list) =
     in_session file calls read taken _ (λ s t k w out room. left_listed s t _ k w out (rw is_list room) ∙ rw (is_verdict, is_list))
 row_holds (counts_listed file calls v n) (read, taken, is_verdict, is_count) =
@@ -123,13 +123,13 @@ row_holds (counts_listed file calls v n) (read, taken, is_verdict, is_count) =
 row_holds (has_conflict file calls p cells) (read, taken, place, (c, here, same)) =
     in_session file calls read taken _
     (λ s t k w out room.
-    left_conflicts s t _ k w p (ltb_true p places_most place) c here out room
-    ∙ ap (wrote (Done 0)) (edit_same _ 0 _ cells_most out (λ cell old l. eqb_true _ _ (all_at _ cells_most same cell l))))
+    left_conflicts s t _ k w p (ltb-true p places_most place) c here out room
+    ∙ ap (wrote (Done 0)) (edit_same _ 0 _ cells_most out (λ cell old l. eqb-true _ _ (all_at _ cells_most same cell l))))
 row_holds (has_tally file calls f n) (read, taken, used, is_tally) =
-    in_session file calls read taken _ (λ s t k w. shown_tally s t _ k f (ltb_true _ _ used) ∙ is_tally)
+    in_session file calls read taken _ (λ s t k w. shown_tally s t _ k f (ltb-true _ _ used) ∙ is_tally)
 row_holds (all_tallies file calls n x) (read, taken, is_count, same) =
     in_session file calls read taken _
-    (λ s t k w. (ap numbers k.same_head ∙ is_count, λ f l. shown_tally s t _ k f (rw is_count l) ∙ eqb_true _ _ (all_at _ n same f l)))
+    (λ s t k w. (ap numbers k.same_head ∙ is_count, λ f l. shown_tally s t _ k f (rw is_count l) ∙ eqb-true _ _ (all_at _ n same f l)))
 
 -- and so are rows that are each computed
 abbrev AllComputed : List Example → Type 0

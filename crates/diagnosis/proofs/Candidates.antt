@@ -7,8 +7,8 @@ use mathlib.Core.List.{List, [], ◌∷◌}
 use mathlib.Core.Bool.{Bool, true, false, not, ◌&&◌, ◌||◌, true≢false}
 use native.Mathlib.Omega.{arith}
 use lib.ListN.{length, get_or, take}
-use lib.Seq.{get_or_take}
-use borrow.Author.Tests.{not_true}
+use lib.Seq.{get_or-take}
+use borrow.Author.Tests.{not-true}
 use Rattle.shapes.specs.Keep.{has, every}
 use Rattle.shapes.proofs.Tests.{and_true}
 use Rattle.machine.specs.Machine.{Machine, specified}
@@ -34,7 +34,7 @@ in_conflict h cells c f even good bad = rw bad (go (has (cell_of h f) (take (t +
     t = (symptoms_of M c.inputs c.outputs).first
 
     missed : reproduces M c.inputs c.outputs ≡ false
-    missed = not_true _ bad
+    missed = not-true _ bad
 
     inside : t < length c.inputs
     inside = first_step M c.inputs c.outputs missed
@@ -43,9 +43,9 @@ in_conflict h cells c f even good bad = rw bad (go (has (cell_of h f) (take (t +
     go true e = refl
     go false e =
         let same : get_or (expected (changed h cells f) c.inputs) t 0 ≡ get_or (expected M c.inputs) t 0 =
-        sym (get_or_take (t + 1) (expected (changed h cells f) c.inputs) t 0 (omega arith))
+        sym (get_or-take (t + 1) (expected (changed h cells f) c.inputs) t 0 (omega arith))
         ∙ ap (λ (l : List ℕ). get_or l t 0) (expected_until h cells c.inputs f (t + 1) e)
-        ∙ get_or_take (t + 1) (expected M c.inputs) t 0 (omega arith) in
+        ∙ get_or-take (t + 1) (expected M c.inputs) t 0 (omega arith) in
         absurd
         (true≢false
         (sym (reproduces_agrees (changed h cells f) c.inputs c.outputs even good t inside)

@@ -4,12 +4,12 @@ use Prim.Native.Nat.{ℕ, zero, suc, ◌+◌, ◌%◌, ◌≤◌, ◌<◌, min}
 use mathlib.Core.Path.{◌≡◌, refl, sym, ap, ◌∙◌}
 use mathlib.Core.List.{List}
 use mathlib.Core.Bool.{Bool, true, false, cond, not, ◌&&◌}
-use native.Mathlib.Nat.{zero_add}
+use native.Mathlib.Nat.{zero-add}
 use native.Mathlib.Omega.{arith}
 use lib.Dec.{eqb}
-use lib.ListN.{length, get_or, take, length_take}
-use lib.Seq.{get_or_take}
-use borrow.Author.Tests.{eq_eqb, ne_eqb, not_true}
+use lib.ListN.{length, get_or, take, length-take}
+use lib.Seq.{get_or-take}
+use borrow.Author.Tests.{eq-eqb, ne_eqb, not-true}
 use Rattle.shapes.specs.Edit.{edit}
 use Rattle.shapes.specs.Keep.{has, bit}
 use Rattle.shapes.proofs.Edit.{edit_kept, edit_ext, length_edit, edit_in, edit_out_above}
@@ -36,11 +36,11 @@ fails_count M c = ap not (reproduces_symptoms M c.inputs c.outputs)
 -- a failing case's first symptom is one of its steps
 first_inside : (M : Machine) (c : Case) → fails M c ≡ true → (symptoms_of M c.inputs c.outputs).first + 1 ≤ length c.inputs
 unfolding fails explains
-first_inside M c e = omega (arith, first_step M c.inputs c.outputs (not_true _ e))
+first_inside M c e = omega (arith, first_step M c.inputs c.outputs (not-true _ e))
 
 -- what the symptoms found say: none, and the case passes ..
 pub no_symptom : (M : Machine) (c : Case) (s : Symptoms) → s ≡ symptoms_of M c.inputs c.outputs → s.count ≡ 0 → fails M c ≡ false
-no_symptom M c s e none = fails_count M c ∙ rw (← e, eq_eqb s.count 0 none)
+no_symptom M c s e none = fails_count M c ∙ rw (← e, eq-eqb s.count 0 none)
 
 -- .. or some, and it fails, with its first symptom among its steps
 pub a_symptom : (M : Machine) (c : Case) (s : Symptoms) → s ≡ symptoms_of M c.inputs c.outputs → (s.count ≡ 0 → ⊥)
@@ -51,10 +51,10 @@ a_symptom M c s e some =
 
 -- the first inputs of a case are a head's
 pub input_in : (h : Head) (is ys : List ℕ) → CaseIn h is ys → (n t : ℕ) → t < min n (length is) → get_or (take n is) t 0 < h.inputs
-input_in h is ys k n t below = rw (get_or_take n is t 0 (omega arith)) (case_step h is ys k t (omega arith))
+input_in h is ys k n t below = rw (get_or-take n is t 0 (omega arith)) (case_step h is ys k t (omega arith))
 
 inputs_in : (h : Head) (is ys : List ℕ) → CaseIn h is ys → (n : ℕ) → InputsIn h (take n is)
-inputs_in h is ys k n t below = input_in h is ys k n t (rw length_take at below)
+inputs_in h is ys k n t below = input_in h is ys k n t (rw length-take at below)
 
 -- of a 0 or 1 that was marked the sweep leaves what it was, and of another nothing
 swept_marked : (v : ℕ) → v ≤ 1 → swept (v % 2 + 2) ≡ v
@@ -107,7 +107,7 @@ narrows h cells t c k out bits bad =
     inside : (i : ℕ) → i < cells_most
         → swept (get_or (marked walked out) (0 + i) 0) ≡ cond (fails M c && not (fails M c && has i seen)) 0 (get_or out (0 + i) 0)
     inside i l =
-        rw (zero_add, bad, ← same, marked_at walked out i (omega (arith, bits.room))) (go (has i walked))
+        rw (zero-add, bad, ← same, marked_at walked out i (omega (arith, bits.room))) (go (has i walked))
       where
         go : (b : Bool) → swept (cond b (get_or out i 0 % 2 + 2) (get_or out i 0)) ≡ cond (not b) 0 (get_or out i 0)
         go true = swept_marked (get_or out i 0) (bits.each i l)
@@ -136,7 +136,7 @@ ones_bits out ones room e =
     one : (cell : ℕ) → cell < cells_most → get_or (edit (λ cell old. 1) 0 cells_most out) cell 0 ≤ 1
     one cell l =
         let at = edit_in (λ cell old. 1) 0 cells_most out cell l (omega arith) in
-        omega (arith, rw zero_add at at)
+        omega (arith, rw zero-add at at)
 
 -- of all 256 ones a failing case leaves its conflict set
 pub conflict_of_ones : (M : Machine) (c : Case) (out ones : List ℕ) → cells_most ≤ length out → ones ≡ spread 1 out

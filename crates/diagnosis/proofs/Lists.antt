@@ -7,7 +7,7 @@ use mathlib.Core.Bool.{Bool, true, false, ◌&&◌, ◌||◌, true≢false}
 use mathlib.Core.Logic.{◌↔◌}
 use native.Mathlib.Omega.{arith}
 use lib.Dec.{eqb, ltb}
-use borrow.Author.Tests.{eq_eqb}
+use borrow.Author.Tests.{eq-eqb}
 use Rattle.shapes.specs.Keep.{keep_to, has, bit, count, Rising}
 use Rattle.shapes.proofs.Keep.{kept, kept_rising, keep_same, count_among, every_count}
 use Rattle.machine.specs.Head.{numbers}
@@ -56,7 +56,7 @@ module _ (h : Head) (cells : List ℕ) (cs : List Case) where
       go (x ∷ l) e none = absurd (true≢false (sym (held x l) ∙ (rw e at (none x))))
         where
           held : (x : ℕ) (l : List ℕ) → (eqb x x || has x l) ≡ true
-          held x l = rw (eq_eqb x x refl)
+          held x l = rw (eq-eqb x x refl)
 
   -- CLEAR exactly if no held case fails, also with none held
   pub clear_exactly : (verdict_of (some_fails h cells cs) (list h cells cs) ≡ verdicts.Clear) ↔ (some_fails h cells cs ≡ false)

@@ -1,5 +1,7 @@
 // Diagnosis (document 01, "Symptoms, conflict sets, verdict"): what one case says against a table and against a fault number.
 // It rests on the machine's definition of a run and its laws, and on no byte of a cell.
+#![tactic(auto)]
+
 ghost use Rattle.std.specs.Prelude.{◌≡◌, ◌<◌, ◌≤◌, length};
 ghost use Rattle.machine.specs.Limits.{cells_most};
 ghost use Rattle.machine.specs.Head.{numbers};

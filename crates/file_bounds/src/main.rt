@@ -1,6 +1,8 @@
 // The boundaries of the house files (document 01, "House files", "Refusal numbers", "Product tables and numbers to check"), through the
 // calls that read and write them. One line each: a name, and 0 where the file is taken or the number of its refusal; beside it the
 // count of a record that is taken, and the cell of CELL.
+#![tactic(auto)]
+
 ghost use Rattle.std.specs.Prelude.{◌≤◌, length};
 
 use house::cases::{RecordFile, put_case, read_record};

@@ -4,8 +4,8 @@ use mathlib.Core.Path.{◌≡◌, refl, sym, ◌∙◌}
 use mathlib.Core.Bool.{true, ◌&&◌}
 use mathlib.Core.List.{List, [], ◌∷◌, ◌++◌}
 use mathlib.Core.Logic.{◌↔◌}
-use borrow.Author.Tests.{not_false}
-use native.Mathlib.Nat.{sub_zero}
+use borrow.Author.Tests.{not-false}
+use native.Mathlib.Nat.{sub-zero}
 use native.Mathlib.Omega.{arith}
 use lib.ListN.{length, get_or, take, drop}
 use Rattle.shapes.specs.Keep.{every}
@@ -44,7 +44,7 @@ next_case file count i at l = let e : count - i ≡ suc (count - (i + 1)) = omeg
 pub case_fine : (h : Head) (a : About) (c : Case) → (ruling (case_rules h a c) ≡ fine) ↔ (good_case h c.inputs c.outputs ≡ true)
 unfolding case_rules
 case_fine h a c = (
-  λ e. not_false _ ((fine_when (case_rules h a c)).0 e).0,
+  λ e. not-false _ ((fine_when (case_rules h a c)).0 e).0,
   λ g. (fine_when (case_rules h a c)).1 (rw g, tt),
 )
 
@@ -73,7 +73,7 @@ module _ (h : Head) (first : About) (file : List ℕ) (count : ℕ) (known : cou
   -- it begins so
   pub judging_begins : Judging h first file count 0 rest_at first
   unfolding place_of cases_in
-  judging_begins = record { inside = omega arith; place = refl; position = omega arith; same = rw (sub_zero, known) }
+  judging_begins = record { inside = omega arith; place = refl; position = omega arith; same = rw (sub-zero, known) }
 
   -- a case that is refused refuses all
   pub judging_refused : (i at : ℕ) (a : About) (r : Refusal) (c : Case) (x : Checked) → Judging h first file count i at a → i < count

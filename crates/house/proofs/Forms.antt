@@ -3,9 +3,9 @@
 use Prim.Native.Nat.{ℕ, ◌-◌, ◌/◌, ◌%◌, ◌≤◌}
 use mathlib.Core.Path.{◌≡◌, refl, sym}
 use mathlib.Core.List.{List}
-use borrow.Author.Tests.{ltb_false, eqb_true, not_false, le_ltb, eq_eqb}
+use borrow.Author.Tests.{ltb-false, eqb-true, not-false, le-ltb, eq-eqb}
 use native.Mathlib.Omega.{arith}
-use lib.ListN.{length, get_or, drop, length_drop}
+use lib.ListN.{length, get_or, drop, length-drop}
 use Rattle.shapes.specs.Refusals.{Ruling, fine, refused, ruling}
 use Rattle.shapes.proofs.Refusals.{fine_when}
 use Rattle.shapes.proofs.Edit.{drop_three}
@@ -31,13 +31,13 @@ pub file_known : (v : ℕ) (file : List ℕ) → ruling (file_rules v file) ≡ 
 unfolding file_rules
 file_known v file e =
     let a = (fine_when (file_rules v file)).0 e in
-    (ltb_false _ _ a.0, eqb_true _ _ (not_false _ a.1.0), eqb_true _ _ (not_false _ a.1.1.0))
+    (ltb-false _ _ a.0, eqb-true _ _ (not-false _ a.1.0), eqb-true _ _ (not-false _ a.1.1.0))
 
 -- and a file that has them there is not refused
 pub file_fine : (v : ℕ) (file : List ℕ) → rest_at ≤ length file → get_or file 0 0 ≡ v → two_bytes file 1 ≡ length file - rest_at
     → ruling (file_rules v file) ≡ fine
 unfolding ruling file_rules
-file_fine v file l e n = rw (le_ltb _ _ l, e, eq_eqb v v refl, n, eq_eqb (length file - rest_at) _ refl)
+file_fine v file l e n = rw (le-ltb _ _ l, e, eq-eqb v v refl, n, eq-eqb (length file - rest_at) _ refl)
 
 -- a file made of a rest is not refused
 pub file_of_fine : (v : ℕ) (rest : List ℕ) → ruling (file_rules v (file_of v rest)) ≡ fine
@@ -52,4 +52,4 @@ file_of_rest v file b e =
     let low = b 2 k.0 in
     let q : two_bytes file 1 / 256 ≡ get_or file 1 0 = omega arith in
     let r : two_bytes file 1 % 256 ≡ get_or file 2 0 = omega arith in
-    rw (length_drop, ← k.1, ← k.2, q, r) (sym (drop_three file 0 k.0))
+    rw (length-drop, ← k.1, ← k.2, q, r) (sym (drop_three file 0 k.0))

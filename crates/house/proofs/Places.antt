@@ -7,8 +7,8 @@ use mathlib.Core.Bool.{true}
 use mathlib.Core.Logic.{◌⊎◌, inl, inr}
 use mathlib.Core.List.{List}
 use lib.ListN.{length, get_or}
-use native.Mathlib.Nat.{eq_or_lt_of_le}
-use native.Mathlib.Numerals.{add_one}
+use native.Mathlib.Nat.{eq-or-lt_of_le}
+use native.Mathlib.Numerals.{add-one}
 use native.Mathlib.Omega.{arith}
 use Rattle.shapes.specs.Refusals.{ruling, fine}
 use Rattle.house.specs.Cases.{case_fits, case_end, count_from, count_in, count_of, record_rules}
@@ -20,7 +20,7 @@ use Rattle.house.proofs.Records.{case_fits_law, counted_last, counted_next, coun
 -- a loop's turn: the place after the case at a place
 pub place_next : (file : List ℕ) (i at x : ℕ) → at ≡ place_of file i → x ≡ get_or file at 0 → at + 1 + 2 * x ≡ place_of file (i + 1)
 unfolding place_of
-place_next file i at x h e = rw (e, h, add_one i)
+place_next file i at x h e = rw (e, h, add-one i)
 
 -- where more are to be counted a case fits here, and the count goes on after it
 counted_more : (file : List ℕ) (left at n m : ℕ) → count_from file left at n ≡ Cases m → n < m
@@ -80,7 +80,7 @@ module _ (file : List ℕ) (ok : ruling (record_rules file) ≡ fine) where
 
   -- so a place before the end is short of the count
   pub place_inside : (i : ℕ) → i ≤ count_of (count_in file) → place_of file i < length file → i < count_of (count_in file)
-  place_inside i h s = go (eq_or_lt_of_le h)
+  place_inside i h s = go (eq-or-lt_of_le h)
     where
       go : (i ≡ count_of (count_in file)) ⊎ (i < count_of (count_in file)) → i < count_of (count_in file)
       go (inl e) = let t = rw (e, place_last) at s in absurd (omega arith)
@@ -88,7 +88,7 @@ module _ (file : List ℕ) (ok : ruling (record_rules file) ≡ fine) where
 
   -- and one at the end is the count
   pub place_past : (i : ℕ) → i ≤ count_of (count_in file) → length file ≤ place_of file i → i ≡ count_of (count_in file)
-  place_past i h s = go (eq_or_lt_of_le h)
+  place_past i h s = go (eq-or-lt_of_le h)
     where
       go : (i ≡ count_of (count_in file)) ⊎ (i < count_of (count_in file)) → i ≡ count_of (count_in file)
       go (inl e) = e

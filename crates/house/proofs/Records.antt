@@ -3,15 +3,15 @@
 use Prim.Native.Nat.{ℕ, zero, suc, ◌+◌, ◌-◌, ◌*◌, ◌≤◌, ◌<◌}
 use mathlib.Core.Path.{◌≡◌, refl, sym, ap, ◌∙◌}
 use mathlib.Core.Logic.{◌⊎◌, inl, inr}
-use mathlib.Core.List.{List, [], ◌∷◌, ◌++◌, append_nil, append_assoc}
+use mathlib.Core.List.{List, [], ◌∷◌, ◌++◌, append-nil, append_assoc}
 use mathlib.Core.Bool.{Bool, true, false, cond}
-use native.Mathlib.Nat.{zero_add, add_zero, sub_zero}
-use native.Mathlib.Numerals.{add_one}
+use native.Mathlib.Nat.{zero-add, add-zero, sub-zero}
+use native.Mathlib.Numerals.{add-one}
 use native.Mathlib.Omega.{arith}
-use borrow.Author.Tests.{lt_ltb, le_ltb, le_leb, lt_leb, leb_true, leb_false}
+use borrow.Author.Tests.{lt-ltb, le-ltb, le-leb, lt-leb, leb-true, leb-false}
 use lib.Dec.{ltb, leb}
-use lib.ListN.{length, take, drop, set, length_append, length_drop, take_append_drop, drop_of_length_le}
-use lib.Seq.{length_take_le, drop_cons, drop_drop, take_append_seam, drop_append_add, get_or_append_seam, take_at, drop_at}
+use lib.ListN.{length, take, drop, set, length-append, length-drop, take-append-drop, drop_of_length-le}
+use lib.Seq.{length-take-le, drop-cons, drop-drop, take-append_seam, drop-append-add, get_or-append_seam, take_at, drop_at}
 use Rattle.shapes.specs.Edit.{filled, place_after}
 use Rattle.shapes.proofs.Edit.{filled_one, filled_append}
 use Rattle.shapes.specs.Refusals.{Ruling, fine, refused, ruling}
@@ -34,8 +34,8 @@ pub ends_within : (at steps n : ℕ) → ltb (2 * steps) (n - at) ≡ leb (at + 
 ends_within at steps n = go (leb (at + 1 + 2 * steps) n) refl
   where
     go : (b : Bool) → leb (at + 1 + 2 * steps) n ≡ b → ltb (2 * steps) (n - at) ≡ b
-    go true e = lt_ltb (2 * steps) (n - at) (omega (arith, leb_true (at + 1 + 2 * steps) n e))
-    go false e = le_ltb (2 * steps) (n - at) (omega (arith, leb_false (at + 1 + 2 * steps) n e))
+    go true e = lt-ltb (2 * steps) (n - at) (omega (arith, leb-true (at + 1 + 2 * steps) n e))
+    go false e = le-ltb (2 * steps) (n - at) (omega (arith, leb-false (at + 1 + 2 * steps) n e))
 
 -- a case that fits has 1 to 64 steps and ends within the file ..
 pub case_fits_law : (file : List ℕ) (at : ℕ) → case_fits file at ≡ true
@@ -44,46 +44,46 @@ unfolding case_fits
 case_fits_law file at e =
     let a = and_true _ _ e in
     let w = and_true _ _ a.0 in
-    (leb_true _ _ w.0, (leb_true _ _ w.1, leb_true _ _ a.1))
+    (leb-true _ _ w.0, (leb-true _ _ w.1, leb-true _ _ a.1))
 
 -- .. and one with these fits
 fits_case : (file : List ℕ) (at : ℕ) → (1 ≤ steps_at file at) × ((steps_at file at ≤ steps_most) × (case_end file at ≤ length file))
     → case_fits file at ≡ true
 unfolding case_fits
-fits_case file at h = rw (le_leb _ _ h.0, le_leb _ _ h.1.0, le_leb _ _ h.1.1)
+fits_case file at h = rw (le-leb _ _ h.0, le-leb _ _ h.1.0, le-leb _ _ h.1.1)
 
 -- a loop's end: nothing more stands there
 pub count_ended : (file : List ℕ) (left at n : ℕ) → length file ≤ at → count_from file left at n ≡ Cases n
 unfolding count_from
-count_ended file zero at n h = rw (le_leb _ _ h)
-count_ended file (suc left) at n h = rw (le_leb _ _ h)
+count_ended file zero at n h = rw (le-leb _ _ h)
+count_ended file (suc left) at n h = rw (le-leb _ _ h)
 
 -- no case may be left, and something stands there
 pub count_full : (file : List ℕ) (at n : ℕ) → n ≡ cases_most → at < length file → count_from file (cases_most - n) at n ≡ Broken
 unfolding count_from
-count_full file at n all h = let d : 64 - n ≡ 0 = omega arith in rw (d, lt_leb _ _ h)
+count_full file at n all h = let d : 64 - n ≡ 0 = omega arith in rw (d, lt-leb _ _ h)
 
 -- what stands there is no case
 pub count_broken : (file : List ℕ) (left at n : ℕ) → at < length file → case_fits file at ≡ false → count_from file left at n ≡ Broken
 unfolding count_from
-count_broken file zero at n h e = rw (lt_leb _ _ h)
-count_broken file (suc left) at n h e = rw (lt_leb _ _ h, e)
+count_broken file zero at n h e = rw (lt-leb _ _ h)
+count_broken file (suc left) at n h e = rw (lt-leb _ _ h, e)
 
 -- a case stands there, and the rest is counted from the place after it
 pub count_next : (file : List ℕ) (left at n : ℕ) → at < length file → case_fits file at ≡ true
     → count_from file (suc left) at n ≡ count_from file left (case_end file at) (suc n)
 unfolding count_from
-count_next file left at n h e = rw (lt_leb _ _ h, e)
+count_next file left at n h e = rw (lt-leb _ _ h, e)
 
 -- a loop's turn
 pub count_turn : (file : List ℕ) (at n : ℕ) → n < cases_most → at < length file → case_fits file at ≡ true
     → count_from file (cases_most - n) at n ≡ count_from file (cases_most - (n + 1)) (case_end file at) (n + 1)
-count_turn file at n few h e = let d : 64 - n ≡ suc (64 - (n + 1)) = omega arith in rw (d, count_next, add_one n)
+count_turn file at n few h e = let d : 64 - n ≡ suc (64 - (n + 1)) = omega arith in rw (d, count_next, add-one n)
 
 -- a case has a length byte, and a byte for each input and output,
 length_bytes : (c : Case) → length (case_bytes c) ≡ 1 + (length c.inputs + length c.outputs)
 unfolding case_bytes
-length_bytes c = let e = length_append c.inputs c.outputs in omega arith
+length_bytes c = let e = length-append c.inputs c.outputs in omega arith
 
 -- so the place after one with as many outputs as inputs is a byte and two for each step on
 pub case_after : (at : ℕ) (c : Case) → length c.outputs ≡ length c.inputs → at + 1 + 2 * length c.inputs ≡ place_after at (case_bytes c)
@@ -161,7 +161,7 @@ unfolding count_from
 counted_last file at n m = go (leb (length file) at) refl
   where
     go : (b : Bool) → leb (length file) at ≡ b → cond b (Cases n) Broken ≡ Cases m → (length file ≤ at) × (n ≡ m)
-    go true past e = (leb_true _ _ past, cc)
+    go true past e = (leb-true _ _ past, cc)
     go false past e = let z : ◌≡◌ {A = ℕ} 0 1 = cc in absurd (omega arith)
 
 -- and where some may be left, at the end or before a case that fits
@@ -175,7 +175,7 @@ counted_next file left at n m = go (leb (length file) at) (case_fits file at) re
 
     go : (b f : Bool) → leb (length file) at ≡ b → case_fits file at ≡ f → cond b (Cases n) (cond f more Broken) ≡ Cases m
         → ((length file ≤ at) × (n ≡ m)) ⊎ ((case_fits file at ≡ true) × (more ≡ Cases m))
-    go true f past fits e = inl (leb_true _ _ past, cc)
+    go true f past fits e = inl (leb-true _ _ past, cc)
     go false true past fits e = inr (fits, e)
     go false false past fits e = let z : ◌≡◌ {A = ℕ} 0 1 = cc in absurd (omega arith)
 
@@ -217,27 +217,27 @@ module _ (pre : List ℕ) (c : Case) (rest : List ℕ) where
   -- its length byte stands there
   written_steps : steps_at (pre ++ (case_bytes c ++ rest)) (length pre) ≡ length c.inputs
   unfolding case_bytes
-  written_steps = get_or_append_seam pre (length c.inputs) _ 0
+  written_steps = get_or-append_seam pre (length c.inputs) _ 0
 
   -- the place after it is that after its bytes
   written_end : Recordable c → case_end (pre ++ (case_bytes c ++ rest)) (length pre) ≡ length (pre ++ case_bytes c)
-  written_end ok = rw (written_steps, length_append) (omega (arith, length_bytes c, ok.even))
+  written_end ok = rw (written_steps, length-append) (omega (arith, length_bytes c, ok.even))
 
   -- it begins within the list
   written_inside : length pre < length (pre ++ (case_bytes c ++ rest))
-  written_inside = simp length_append (omega (arith, length_bytes c))
+  written_inside = simp length-append (omega (arith, length_bytes c))
 
   -- it fits
   written_fits : Recordable c → case_fits (pre ++ (case_bytes c ++ rest)) (length pre) ≡ true
   written_fits ok =
       let e = written_steps in
       fits_case (pre ++ (case_bytes c ++ rest)) (length pre)
-      (rw e ok.some_steps, (rw e ok.few_steps, rw (written_end ok) (simp length_append (omega arith))))
+      (rw e ok.some_steps, (rw e ok.few_steps, rw (written_end ok) (simp length-append (omega arith))))
 
   -- its inputs stand after the length byte ..
   written_inputs : take (length c.inputs) (drop (length pre + 1) (pre ++ (case_bytes c ++ rest))) ≡ c.inputs
   unfolding case_bytes
-  written_inputs = rw (drop_append_add pre _ 1, append_assoc) (take_append_seam c.inputs (c.outputs ++ rest))
+  written_inputs = rw (drop-append-add pre _ 1, append_assoc) (take-append_seam c.inputs (c.outputs ++ rest))
 
   -- .. and its outputs after these
   written_outputs : Recordable c → take (length c.inputs) (drop (length pre + 1 + length c.inputs) (pre ++ (case_bytes c ++ rest))) ≡ c.outputs
@@ -248,7 +248,7 @@ module _ (pre : List ℕ) (c : Case) (rest : List ℕ) where
       front = pre ++ (length c.inputs ∷ c.inputs)
 
       size : length front ≡ length pre + 1 + length c.inputs
-      size = simp length_append (omega arith)
+      size = simp length-append (omega arith)
 
       split : pre ++ (case_bytes c ++ rest) ≡ front ++ (c.outputs ++ rest)
       split = simp append_assoc
@@ -262,7 +262,7 @@ module _ (pre : List ℕ) (c : Case) (rest : List ℕ) where
 pub count_written : (cs : List Case) (pre : List ℕ) (left n : ℕ) → AllRecordable cs → length cs ≤ left
     → count_from (pre ++ rest_of cs) left (length pre) n ≡ Cases (n + length cs)
 unfolding rest_of
-count_written [] pre left n ok few = rw (append_nil, add_zero) (count_ended pre left (length pre) n (omega arith))
+count_written [] pre left n ok few = rw (append-nil, add-zero) (count_ended pre left (length pre) n (omega arith))
 count_written (c ∷ cs) pre zero n ok few = absurd (omega arith)
 count_written (c ∷ cs) pre (suc left) n ok few =
     let w = count_next _ left _ n (written_inside pre c (rest_of cs)) (written_fits pre c (rest_of cs) ok.0) in
@@ -286,23 +286,23 @@ record_reads_back cs few ok =
     (read_counted (record_file cs) (file_of_fine version (rest_of cs)) count, rw count (cases_written cs (file_head version (length (rest_of cs))) ok))
   where
     count : count_in (record_file cs) ≡ Cases (length cs)
-    count = rw zero_add at (count_written cs (file_head version (length (rest_of cs))) cases_most 0 ok few)
+    count = rw zero-add at (count_written cs (file_head version (length (rest_of cs))) cases_most 0 ok few)
 
 -- two parts of a list, one right after the other, and what comes after them are what comes from the first part on
 two_parts : (l : List ℕ) (at n : ℕ) → (take n (drop at l) ++ take n (drop (at + n) l)) ++ drop (at + 2 * n) l ≡ drop at l
 two_parts l at n =
     let d : at + 2 * n ≡ at + n + n = omega arith in
-    rw (append_assoc, d, ← drop_drop n (at + n) l, take_append_drop n (drop (at + n) l), ← drop_drop n at l, take_append_drop)
+    rw (append_assoc, d, ← drop-drop n (at + n) l, take-append-drop n (drop (at + n) l), ← drop-drop n at l, take-append-drop)
 
 -- a place where a case fits
 module _ (file : List ℕ) (at : ℕ) (fits : case_fits file at ≡ true) where
   -- as many inputs stand there as the length byte says
   inputs_there : length (take (steps_at file at) (drop (at + 1) file)) ≡ steps_at file at
-  inputs_there = let f = case_fits_law file at fits in length_take_le _ _ (rw length_drop (omega arith))
+  inputs_there = let f = case_fits_law file at fits in length-take-le _ _ (rw length-drop (omega arith))
 
   -- and as many outputs after them
   outputs_there : length (take (steps_at file at) (drop (at + 1 + steps_at file at) file)) ≡ steps_at file at
-  outputs_there = let f = case_fits_law file at fits in length_take_le _ _ (rw length_drop (omega arith))
+  outputs_there = let f = case_fits_law file at fits in length-take-le _ _ (rw length-drop (omega arith))
 
   -- so the case that stands there is one that a record can hold ..
   case_recordable : Recordable (case_at file at)
@@ -317,7 +317,7 @@ module _ (file : List ℕ) (at : ℕ) (fits : case_fits file at ≡ true) where
   case_there =
       let f = case_fits_law file at fits in
       let h : at < length file = omega arith in
-      rw (inputs_there, two_parts file (at + 1) (steps_at file at), add_one at) (sym (drop_cons file at 0 h))
+      rw (inputs_there, two_parts file (at + 1) (steps_at file at), add-one at) (sym (drop-cons file at 0 h))
 
 -- cases that a record can hold, whose bytes stand from a place to the end
 abbrev Stand : List ℕ → ℕ → List Case → Type 0
@@ -326,7 +326,7 @@ Stand file at cs = (rest_of cs ≡ drop at file) × AllRecordable cs
 -- at the end no case stands
 stand_ended : (file : List ℕ) (at n m : ℕ) → length file ≤ at → n ≡ m → Stand file at (cases_from file (m - n) at)
 unfolding rest_of cases_from
-stand_ended file at n m past e = let d : m - n ≡ 0 = omega arith in rw d (sym (drop_of_length_le file past), tt)
+stand_ended file at n m past e = let d : m - n ≡ 0 = omega arith in rw d (sym (drop_of_length-le file past), tt)
 
 -- a case that fits stands before those after it
 stand_more : (file : List ℕ) (at n m : ℕ) → case_fits file at ≡ true → n < m
@@ -356,6 +356,6 @@ unfolding cases_in count_in
 record_writes_back file n bytes e =
     let c = (record_count file n e).0 in
     let s = cases_stand file cases_most rest_at 0 n c in
-    let h = rw sub_zero at s in
+    let h = rw sub-zero at s in
     let f = (record_sound file (rules_pass file e).0).0 in
     rw c (rw h.0 (file_of_rest version file bytes f), h.1)

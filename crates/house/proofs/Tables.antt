@@ -6,11 +6,11 @@ use mathlib.Core.Path.{◌≡◌, refl, sym, ◌∙◌, ap}
 use mathlib.Core.Bool.{true, false, not, ◌||◌}
 use mathlib.Core.List.{List, [], ◌∷◌}
 use mathlib.Core.Logic.{◌↔◌}
-use borrow.Author.Tests.{ltb_false, eqb_true, not_false, lt_ltb, le_ltb, eq_eqb, ne_eqb}
+use borrow.Author.Tests.{ltb-false, eqb-true, not-false, lt-ltb, le-ltb, eq-eqb, ne_eqb}
 use native.Mathlib.Omega.{arith}
 use lib.Dec.{eqb, ltb}
-use lib.ListN.{length, get_or, set, take, drop, length_drop}
-use lib.Seq.{take_all, get_or_take, length_take_le}
+use lib.ListN.{length, get_or, set, take, drop, length-drop}
+use lib.Seq.{take_all, get_or-take, length-take-le}
 use Rattle.shapes.specs.Edit.{filled}
 use Rattle.shapes.proofs.Edit.{filled_append, drop_three}
 use Rattle.shapes.specs.Refusals.{Ruling, fine, refused, ruling, AllFalse, RefusedBy}
@@ -56,34 +56,34 @@ module _ (file : List ℕ) where
   -- SIZE where the three numbers are missing,
   pub size_short : length file < file_cells_at → bad_size file ≡ true
   unfolding bad_size
-  size_short l = rw (lt_ltb _ _ l)
+  size_short l = rw (lt-ltb _ _ l)
 
   -- where they are no head,
   pub size_no_head : file_cells_at ≤ length file → good_head (head_in file) ≡ false → bad_size file ≡ true
   unfolding bad_size
-  size_no_head l g = rw (le_ltb _ _ l, g)
+  size_no_head l g = rw (le-ltb _ _ l, g)
 
   -- and where the rest has another length than the cells want
   pub size_wrong : {h : Head} {cells : ℕ} → Named file h → cells ≡ cell_count h → file_cells_at ≤ length file
       → (length file ≡ file_cells_at + 2 * cells → ⊥) → bad_size file ≡ true
   unfolding bad_size
   size_wrong n e l d =
-      rw (le_ltb _ _ l, n.good, ne_eqb (length file - rest_at) (3 + 2 * cell_count (head_in file)) λ q. d (omega (arith, ap cell_count n.same)))
+      rw (le-ltb _ _ l, n.good, ne_eqb (length file - rest_at) (3 + 2 * cell_count (head_in file)) λ q. d (omega (arith, ap cell_count n.same)))
 
   -- no SIZE where it has that length
   pub size_right : {h : Head} {cells : ℕ} → Named file h → cells ≡ cell_count h → length file ≡ file_cells_at + 2 * cells → bad_size file ≡ false
   unfolding bad_size
   size_right n e l =
-      rw (le_ltb (length file) file_cells_at (omega arith), n.good, eq_eqb (length file - rest_at) (3 + 2 * cell_count (head_in file)) (omega (arith, ap cell_count n.same)))
+      rw (le-ltb (length file) file_cells_at (omega arith), n.good, eq-eqb (length file - rest_at) (3 + 2 * cell_count (head_in file)) (omega (arith, ap cell_count n.same)))
 
   -- the part from the cells on is the cells,
   pub cells_part : take (length file - file_cells_at) (drop file_cells_at file) ≡ cells_in file
-  cells_part = take_all (length file - file_cells_at) (cells_in file) (simp length_drop (omega arith))
+  cells_part = take_all (length file - file_cells_at) (cells_in file) (simp length-drop (omega arith))
 
   -- so there is room for them
   pub cells_room_law : {h : Head} {cells : ℕ} → Named file h → cells ≡ cell_count h → length file ≡ file_cells_at + 2 * cells
       → 2 * cell_count h ≤ length (take (length file - file_cells_at) (drop file_cells_at file))
-  cells_room_law n e l = rw (cells_part, length_drop) (omega arith)
+  cells_room_law n e l = rw (cells_part, length-drop) (omega arith)
 
   -- and the lowest bad cell of that part is the file's
   pub cells_bad : {h : Head} {b : ℕ} → Named file h → b ≡ first_bad h (take (length file - file_cells_at) (drop file_cells_at file))
@@ -106,7 +106,7 @@ module _ (file : List ℕ) where
         → b ≡ first_bad (head_in file) (cells_in file) → b < cells → table_read file ≡ Refused (Cell b)
     unfolding table_read table_rules bad_cells ruling
     read_cell {b = b} s n c d l =
-        rw (ruling_join_fine (file_rules version file) _ e, s, ← d, lt_ltb b (cell_count (head_in file)) (omega (arith, ap cell_count n.same)))
+        rw (ruling_join_fine (file_rules version file) _ e, s, ← d, lt-ltb b (cell_count (head_in file)) (omega (arith, ap cell_count n.same)))
 
     -- else it is a table
     pub read_fine : {h : Head} {b cells : ℕ} → bad_size file ≡ false → Named file h → cells ≡ cell_count h
@@ -114,7 +114,7 @@ module _ (file : List ℕ) where
     unfolding table_read table_rules bad_cells ruling
     read_fine {b = b} s n c d l =
         rw
-        (n.same, ruling_join_fine (file_rules version file) _ e, s, ← d, le_ltb b (cell_count (head_in file)) (omega (arith, ap cell_count n.same)))
+        (n.same, ruling_join_fine (file_rules version file) _ e, s, ← d, le-ltb b (cell_count (head_in file)) (omega (arith, ap cell_count n.same)))
 
 -- three stores after the head of every file write what stands before the cells
 pub head_written : (out : List ℕ) (h : Head) {last : List ℕ} {cells : ℕ} → last ≡ filled out 0 (file_head version (3 + 2 * cells)) → cells ≡ cell_count h
@@ -155,15 +155,15 @@ unfolding bad_size
 size_known file e =
     let s = or_false (ltb (length file) file_cells_at || not (good_head (head_in file))) (not (eqb (length file - rest_at) (3 + 2 * cell_count (head_in file)))) e in
     let g = or_false (ltb (length file) file_cells_at) (not (good_head (head_in file))) s.0 in
-    let l = ltb_false (length file) file_cells_at g.0 in
-    let r = eqb_true (length file - rest_at) (3 + 2 * cell_count (head_in file)) (not_false _ s.1) in
-    (not_false _ g.1, omega arith)
+    let l = ltb-false (length file) file_cells_at g.0 in
+    let r = eqb-true (length file - rest_at) (3 + 2 * cell_count (head_in file)) (not-false _ s.1) in
+    (not-false _ g.1, omega arith)
 
 -- a file that CELL does not refuse has no bad cell
 cells_known : (file : List ℕ) → bad_cells file ≡ false → first_bad (head_in file) (cells_in file) ≡ cell_count (head_in file)
 unfolding bad_cells
 cells_known file e =
-    let l = ltb_false (first_bad (head_in file) (cells_in file)) (cell_count (head_in file)) e in
+    let l = ltb-false (first_bad (head_in file) (cells_in file)) (cell_count (head_in file)) e in
     omega (arith, bad_few (head_in file) (cells_in file))
 
 -- what is known of a table that was read: its head and cells are a table's, and the file ends with them
@@ -175,7 +175,7 @@ table_known file h e =
     let l = s.1 in
     let known : TableIn (head_in file) (cells_in file) = record {
       head = head_in_law _ s.0;
-      room = simp length_drop (omega arith);
+      room = simp length-drop (omega arith);
       sound = cells_known file t.0.1.1.1.1.0;
     } in
     rw t.1 (known, l)
@@ -190,12 +190,12 @@ file_of_table : (h : Head) (cells : List ℕ) → 2 * cell_count h ≤ length ce
     → table_file h cells ≡ file_of version (h.states ∷ h.inputs ∷ h.outputs ∷ take (2 * cell_count h) cells)
 unfolding table_file table_head_bytes file_of file_head
 file_of_table h cells l =
-    let e : length (h.states ∷ h.inputs ∷ h.outputs ∷ take (2 * cell_count h) cells) ≡ 3 + 2 * cell_count h = omega (arith, length_take_le (2 * cell_count h) cells l) in
+    let e : length (h.states ∷ h.inputs ∷ h.outputs ∷ take (2 * cell_count h) cells) ≡ 3 + 2 * cell_count h = omega (arith, length-take-le (2 * cell_count h) cells l) in
     rw e
 
 -- bytes after the cells make no cell bad
 cut_sound : (h : Head) (cells : List ℕ) → first_bad h cells ≡ cell_count h → first_bad h (take (2 * cell_count h) cells) ≡ cell_count h
-cut_sound h cells e = bad_same h (take (2 * cell_count h) cells) cells (λ i l. get_or_take (2 * cell_count h) cells i 0 l) ∙ e
+cut_sound h cells e = bad_same h (take (2 * cell_count h) cells) cells (λ i l. get_or-take (2 * cell_count h) cells i 0 l) ∙ e
 
 -- a table that was written is read back as itself
 pub table_reads_back : (h : Head) (cells : List ℕ) → TableIn h cells
@@ -213,13 +213,13 @@ table_reads_back h cells t = (read_fine file passes (size_right file named refl 
     named = record { good = head_good h t.head; same = refl }
 
     size : length file ≡ file_cells_at + 2 * cell_count h
-    size = omega (arith, length_take_le (2 * cell_count h) cells t.room)
+    size = omega (arith, length-take-le (2 * cell_count h) cells t.room)
 
 -- a table that was read is written back as the same file
 pub table_writes_back : (file : List ℕ) (h : Head) → Bytes file → table_read file ≡ Table h → table_file h (cells_in file) ≡ file
 table_writes_back file h b e =
     let k = table_known file h e in
     let l = k.1 in
-    let all : take (2 * cell_count h) (cells_in file) ≡ cells_in file = take_all (2 * cell_count h) (cells_in file) (rw length_drop (omega arith)) in
+    let all : take (2 * cell_count h) (cells_in file) ≡ cells_in file = take_all (2 * cell_count h) (cells_in file) (rw length-drop (omega arith)) in
     rw (file_of_table h (cells_in file) k.0.room, all, (table_taken file h e).1, ← drop_three file 3 (omega arith))
     (file_of_rest version file b (table_file_fine file h e))

@@ -1,4 +1,5 @@
 // The house files (document 01, "House files"): what a refusal is, the table file and the record file.
+#![tactic(auto)]
 
 // Refusals, their numbers and what each carries.
 pub mod refusal;

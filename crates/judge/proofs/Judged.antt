@@ -5,8 +5,8 @@ use mathlib.Core.Path.{◌≡◌, refl, sym, ◌∙◌}
 use mathlib.Core.Bool.{Bool, true, false}
 use mathlib.Core.List.{List, [], ◌∷◌, ◌++◌}
 use mir.Val.{bool_byte}
-use borrow.Author.Tests.{not_true, not_false, le_leb, lt_leb}
-use native.Mathlib.Nat.{sub_zero}
+use borrow.Author.Tests.{not-true, not-false, le-leb, lt-leb}
+use native.Mathlib.Nat.{sub-zero}
 use native.Mathlib.Omega.{arith}
 use lib.Dec.{leb}
 use lib.ListN.{length, get_or, take, drop}
@@ -48,7 +48,7 @@ module _ (h : Head) (cells : List ℕ) (number : ℕ) (file : List ℕ) (count :
   pub trying_begins : count ≡ count_of (count_in file) → all_good h (cases_in file) ≡ true → Trying h cells number file count 0 rest_at
   unfolding place_of cases_in explains_all
   trying_begins known ok =
-      record { inside = omega arith; place = refl; sound = rw (sub_zero, known) ok; same = rw (sub_zero, known) }
+      record { inside = omega arith; place = refl; sound = rw (sub-zero, known) ok; same = rw (sub-zero, known) }
 
   module _ (i at : ℕ) (k : Trying h cells number file count i at) (l : i < count) (c : Case) (e : c ≡ case_at file at) where
     -- the next case can be run against the head, and so can those after it
@@ -65,7 +65,7 @@ module _ (h : Head) (cells : List ℕ) (number : ℕ) (file : List ℕ) (count :
     pub trying_missed : misses h cells number c ≡ true → explains_all h cells (cases_in file) number ≡ false
     unfolding misses fails every
     trying_missed m =
-        let no : explains (changed h cells number) (case_at file at) ≡ false = rw e at (not_true (explains (changed h cells number) c) m) in
+        let no : explains (changed h cells number) (case_at file at) ≡ false = rw e at (not-true (explains (changed h cells number) c) m) in
         sym k.same ∙ rw (next_case file count i at l, no)
 
     -- else those after it decide
@@ -73,7 +73,7 @@ module _ (h : Head) (cells : List ℕ) (number : ℕ) (file : List ℕ) (count :
         → Trying h cells number file count (i + 1) end
     unfolding misses fails every
     trying_goes_on end x y ex ey ee m =
-        let yes : explains (changed h cells number) (case_at file at) ≡ true = rw e at (not_false (explains (changed h cells number) c) m) in
+        let yes : explains (changed h cells number) (case_at file at) ≡ true = rw e at (not-false (explains (changed h cells number) c) m) in
         let here : end ≡ case_end file at = omega arith in
         rw here
         (record {
@@ -127,7 +127,7 @@ module _ (table file : List ℕ) (number : ℕ) where
         -- then NUMBER,
         pub judged_number : numbers h ≤ number → judgement table file number ≡ refused_as Number
         unfolding judgement
-        judged_number l = rw (cases_next, ruling_join_fine (cases_rules h alone (cases_in file)) _ s, ruling_here Number [] (le_leb _ _ l))
+        judged_number l = rw (cases_next, ruling_join_fine (cases_rules h alone (cases_in file)) _ s, ruling_here Number [] (le-leb _ _ l))
 
         -- else whether every case is reproduced, cast to a number
         pub judged_done : number < numbers h → (b : Bool) → b ≡ explains_all h (take (length table - file_cells_at) (drop file_cells_at table)) (cases_in file) number
@@ -135,4 +135,4 @@ module _ (table file : List ℕ) (number : ℕ) where
         unfolding judgement
         judged_done l b eb =
             let t : b ≡ explains_all (head_in table) (cells_in table) (cases_in file) number = eb ∙ rw (cells_part table, (table_taken table h e).1) in
-            rw (cases_next, ruling_join_fine (cases_rules h alone (cases_in file)) _ s, ruling_past Number [] (lt_leb _ _ l), ruling_end {R = Refusal}) (bit_told t).0
+            rw (cases_next, ruling_join_fine (cases_rules h alone (cases_in file)) _ s, ruling_past Number [] (lt-leb _ _ l), ruling_end {R = Refusal}) (bit_told t).0

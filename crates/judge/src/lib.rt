@@ -1,4 +1,6 @@
 // The judge (document 01, "The C side"): the one function that the bench harness, a C program, calls. bench/judge.h declares it.
+#![tactic(auto)]
+
 ghost use Rattle.std.specs.Prelude.{◌≡◌, true, ◌<◌};
 ghost use Rattle.shapes.specs.Refusals.{ruling, fine};
 ghost use Rattle.machine.specs.Head.{numbers};

@@ -3,7 +3,7 @@
 use Prim.Native.Nat.{ℕ, ◌≤◌}
 use mathlib.Core.Path.{◌≡◌, refl, ap, ◌∙◌}
 use mathlib.Core.List.{List, [], ◌∷◌, ◌++◌}
-use borrow.Author.Tests.{le_ltb}
+use borrow.Author.Tests.{le-ltb}
 use lib.ListN.{length}
 use Rattle.shapes.specs.Edit.{filled}
 use Rattle.shapes.specs.Refusals.{Ruling, fine, refused, ruling}
@@ -40,7 +40,7 @@ written_holds : (file text out : List ℕ) → ruling (table_rules file) ≡ fin
     → write_call file out ≡ wrote (Done (length text)) (filled out 0 text)
 unfolding write_call write_rules
 written_holds file text out none same room =
-    let free = le_ltb (length out) (length (text_of_table file)) (made_fits (text_of_table file) text out same room) in
+    let free = le-ltb (length out) (length (text_of_table file)) (made_fits (text_of_table file) text out same room) in
     let rules : ruling (write_rules file out) ≡ fine = ruling_join_fine (table_rules file) _ none ∙ ruling_past _ [] free ∙ ruling_end in
     written_out (ruling (write_rules file out)) (length (text_of_table file)) (text_of_table file) text out rules same (ap length same)
 
@@ -49,13 +49,13 @@ read_holds : (text file out : List ℕ) → ruling (text_rules text) ≡ fine �
     → table_most ≤ length out → read_call text out ≡ wrote (Done (length file)) (filled out 0 file)
 unfolding read_call read_rules
 read_holds text file out none same bytes room =
-    let rules : ruling (read_rules text out) ≡ fine = ruling_past _ _ (le_ltb (length out) table_most room) ∙ none in
+    let rules : ruling (read_rules text out) ≡ fine = ruling_past _ _ (le-ltb (length out) table_most room) ∙ none in
     written_out (ruling (read_rules text out)) (table_bytes (head_of_text text)) (table_of_text text) file out rules same bytes
 
 refused_holds : (text : List ℕ) (r : Refusal) (out : List ℕ) → ruling (text_rules text) ≡ refused r → table_most ≤ length out → read_call text out ≡ wrote (Refused r) out
 unfolding read_call read_rules
 refused_holds text r out e room =
-    let rules : ruling (read_rules text out) ≡ refused r = ruling_past _ _ (le_ltb (length out) table_most room) ∙ e in
+    let rules : ruling (read_rules text out) ≡ refused r = ruling_past _ _ (le-ltb (length out) table_most room) ∙ e in
     refusal_leaves (ruling (read_rules text out)) r (table_bytes (head_of_text text)) out (filled out 0 (table_of_text text)) rules
 
 holds : (e : TextExample) → Computed e → HoldsText e

@@ -6,10 +6,10 @@ use mathlib.Core.Path.{◌≡◌, refl, sym, ap, ◌∙◌}
 use mathlib.Core.List.{List, [], ◌∷◌, ◌++◌}
 use mathlib.Core.Bool.{Bool, true, false, true≢false, cond, ◌&&◌}
 use native.Mathlib.Omega.{arith}
-use borrow.Author.Tests.{lt_ltb, le_ltb, ltb_true, ltb_false, eqb_true, eq_eqb}
+use borrow.Author.Tests.{lt-ltb, le-ltb, ltb-true, ltb-false, eqb-true, eq-eqb}
 use lib.Dec.{eqb, ltb}
-use lib.ListN.{length, drop, length_drop, length_append, drop_of_length_le}
-use lib.Seq.{drop_drop, drop_append_seam}
+use lib.ListN.{length, drop, length-drop, length-append, drop_of_length-le}
+use lib.Seq.{drop-drop, drop-append_seam}
 use Rattle.shapes.specs.First.{first}
 use Rattle.shapes.specs.Edit.{place_after}
 use Rattle.shapes.proofs.First.{first_low, first_high, first_holds, first_before, first_none}
@@ -27,7 +27,7 @@ use Rattle.kiss2.proofs.Seen.{value_in, value_is, written_seen, seen_dropped}
 begins_whole : (v rest : List ℕ) → begins v (v ++ rest) ≡ true
 unfolding begins
 begins_whole [] rest = refl
-begins_whole (x ∷ v) rest = rw (eq_eqb x x refl, begins_whole v rest)
+begins_whole (x ∷ v) rest = rw (eq-eqb x x refl, begins_whole v rest)
 
 -- and where they begin with others these are their first part
 begins_parts : (v l : List ℕ) → begins v l ≡ true → l ≡ v ++ drop (length v) l
@@ -36,13 +36,13 @@ begins_parts [] l e = refl
 begins_parts (x ∷ v) [] e = absurd (true≢false (sym e))
 begins_parts (x ∷ v) (y ∷ l) e =
     let b = and_true (eqb x y) (begins v l) e in
-    let head = eqb_true x y b.0 in
+    let head = eqb-true x y b.0 in
     let rest = begins_parts v l b.1 in
     let more : y ∷ l ≡ x ∷ (v ++ drop (length v) l) = ap (λ z. z ∷ l) (sym head) ∙ ap (λ z. x ∷ z) rest in more
 
 -- a place after bytes that stand in a text: what is left of it
 pub rest_after : (text : List ℕ) (at : ℕ) (v rest : List ℕ) → drop at text ≡ v ++ rest → drop (place_after at v) text ≡ rest
-rest_after text at v rest e = rw (← drop_drop (length v) at text, e) (drop_append_seam v rest)
+rest_after text at v rest e = rw (← drop-drop (length v) at text, e) (drop-append_seam v rest)
 
 -- every word has a byte
 pub written_some : (w : Word) (x : ℕ) → 1 ≤ length (written w x)
@@ -51,14 +51,14 @@ written_some (Number d) x = omega arith
 written_some Reset x = omega arith
 written_some End x = omega arith
 written_some State x = omega arith
-written_some (InputBits w) x = let e = length_append (bits w x) (32 ∷ []) in omega arith
-written_some (OutputBits w) x = let e = length_append (bits w x) (10 ∷ []) in omega arith
+written_some (InputBits w) x = let e = length-append (bits w x) (32 ∷ []) in omega arith
+written_some (OutputBits w) x = let e = length-append (bits w x) (10 ∷ []) in omega arith
 
 module _ (w : Word) (text : List ℕ) (at : ℕ) where
   -- a writing stands at a place exactly if the text from there on begins with it
   pub stands_parts : (x : ℕ) → stands_at (written w x) text at ≡ true → drop at text ≡ written w x ++ drop (place_after at (written w x)) text
   unfolding stands_at
-  stands_parts x e = rw (← drop_drop (length (written w x)) at text) (begins_parts (written w x) (drop at text) e)
+  stands_parts x e = rw (← drop-drop (length (written w x)) at text) (begins_parts (written w x) (drop at text) e)
 
   pub stands_whole : (x : ℕ) (rest : List ℕ) → drop at text ≡ written w x ++ rest → stands_at (written w x) text at ≡ true
   unfolding stands_at
@@ -75,7 +75,7 @@ module _ (w : Word) (text : List ℕ) (at : ℕ) where
   -- where a value's writing stands, the word is that one
   pub word_stands : (x : ℕ) → is_value w x ≡ true → stands_at (written w x) text at ≡ true → word_at w text at ≡ Value x (place_after at (written w x))
   unfolding word_at value_at
-  word_stands x h e = rw (same, lt_ltb x (beyond w) (value_in w x h).1)
+  word_stands x h e = rw (same, lt-ltb x (beyond w) (value_in w x h).1)
     where
       p : ℕ → Bool
       p y = stands_at (written w y) text at
@@ -85,9 +85,9 @@ module _ (w : Word) (text : List ℕ) (at : ℕ) where
 
       not_above : (b : Bool) → ltb x found ≡ b → found ≤ x
       not_above true q =
-          let no = first_before p (least w) (beyond w - least w) x (value_in w x h).0 (ltb_true x found q) in
+          let no = first_before p (least w) (beyond w - least w) x (value_in w x h).0 (ltb-true x found q) in
           absurd (true≢false (sym e ∙ no))
-      not_above false q = ltb_false x found q
+      not_above false q = ltb-false x found q
 
       same : value_at w text at ≡ x
       same =
@@ -111,7 +111,7 @@ module _ (w : Word) (text : List ℕ) (at : ℕ) where
 
       go : (b : Bool) → ltb (value_at w text at) (beyond w) ≡ b → word_at w text at ≡ Nothing
       go true q =
-          let high = ltb_true found (beyond w) q in
+          let high = ltb-true found (beyond w) q in
           let low = first_low p (least w) (beyond w - least w) in
           let holds = first_holds p (least w) (beyond w - least w) (omega arith) in
           absurd (true≢false (sym holds ∙ none found (value_is w found low high)))
@@ -138,7 +138,7 @@ module _ (w : Word) (text : List ℕ) (at : ℕ) where
           let some : word_at w text at ≡ Value found (place_after at (written w found)) = rw q in
           let same : found ≡ x = cc in
           let after : place_after at (written w found) ≡ next = cc in
-          let high = ltb_true found (beyond w) q in
+          let high = ltb-true found (beyond w) q in
           let low = first_low p (least w) (beyond w - least w) in
           let holds = first_holds p (least w) (beyond w - least w) (omega arith) in
           (rw (← same) (value_is w found low high), (rw (← same) holds, rw (← same) (sym after)))
@@ -153,7 +153,7 @@ module _ (w : Word) (text : List ℕ) (at : ℕ) where
       let k = word_exact e in
       let some = written_some w x in
       let parts = ap length (word_parts e) in
-      let long : length text - at ≡ length (written w x) + (length text - next) = rw (← length_drop at text, parts, length_append, length_drop) in
+      let long : length text - at ≡ length (written w x) + (length text - next) = rw (← length-drop at text, parts, length-append, length-drop) in
       inside (length (written w x)) some k.1.1 long
     where
       inside : (n : ℕ) → 1 ≤ n → next ≡ at + n → length text - at ≡ n + (length text - next) → (at < next) × (next ≤ length text)
@@ -170,7 +170,7 @@ module _ (w : Word) (text : List ℕ) (at : ℕ) where
     where
       nothing : (v : List ℕ) → 1 ≤ length v → stands_at v text at ≡ false
       nothing [] s = absurd (omega arith)
-      nothing (x ∷ v) s = rw (drop_of_length_le text l)
+      nothing (x ∷ v) s = rw (drop_of_length-le text l)
 
   -- nor where what is seen is no value of the word's,
   pub word_other : is_value w (seen w text at) ≡ false → word_at w text at ≡ Nothing

@@ -6,7 +6,7 @@ use mathlib.Core.List.{List, ◌++◌, append_assoc}
 use mathlib.Core.Bool.{true}
 use native.Mathlib.Nat.{add_assoc}
 use native.Mathlib.Omega.{arith}
-use lib.ListN.{length, drop, length_append}
+use lib.ListN.{length, drop, length-append}
 use Rattle.shapes.specs.Edit.{place_after}
 use Rattle.kiss2.specs.Words.{written, is_value, word_at}
 use Rattle.kiss2.specs.Lines.{cell_line, LineIn, with_word, cell_at}
@@ -44,7 +44,7 @@ module _ (a b c d : List ℕ) where
   -- and the place after them
   four_after : (at at1 at2 at3 at4 : ℕ) → at1 ≡ place_after at a → at2 ≡ place_after at1 b → at3 ≡ place_after at2 c → at4 ≡ place_after at3 d
       → at4 ≡ place_after at (a ++ (b ++ (c ++ d)))
-  four_after at at1 at2 at3 at4 e1 e2 e3 e4 = rw (length_append, length_append, length_append) (omega arith)
+  four_after at at1 at2 at3 at4 e1 e2 e3 e4 = rw (length-append, length-append, length-append) (omega arith)
 
 module _ (ws : Widths) (text : List ℕ) (at : ℕ) where
   -- four words one after the other are a line

@@ -1,4 +1,5 @@
 // KISS2 texts of tables, read and written (document 02, ticket 1).
+#![tactic(auto)]
 
 // The words of a text.
 pub mod words;

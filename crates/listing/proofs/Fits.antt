@@ -4,11 +4,11 @@
 use Prim.Native.Nat.{ℕ, ◌-◌, ◌≤◌, ◌<◌}
 use mathlib.Core.Path.{◌≡◌, refl}
 use mathlib.Core.List.{List}
-use borrow.Author.Tests.{ltb_false}
-use native.Mathlib.Nat.{zero_add, sub_zero}
+use borrow.Author.Tests.{ltb-false}
+use native.Mathlib.Nat.{zero-add, sub-zero}
 use native.Mathlib.Omega.{arith}
 use lib.ListN.{length, get_or, take}
-use lib.Seq.{get_or_take, length_take_le}
+use lib.Seq.{get_or-take, length-take-le}
 use Rattle.shapes.specs.Edit.{filled}
 use Rattle.shapes.specs.Refusals.{Ruling, fine, refused, ruling}
 use Rattle.shapes.proofs.Edit.{length_filled, filled_in}
@@ -36,7 +36,7 @@ list_in_use s t i h = kept_below _ (numbers (head_of s)) i h
 pub first_in_use : (l : List ℕ) (n : ℕ) {h g : Head} → h ≡ g → HeadIn g → n ≤ length l → ((i : ℕ) → i < n → get_or l i 0 < numbers g)
     → HeadIn h × ((i : ℕ) → i < length (take (n - 0) l) → get_or (take (n - 0) l) i 0 < numbers h)
 first_in_use l n e good fits low =
-    rw e (good, λ i below. let k = rw (sub_zero, length_take_le n l fits) at below in rw (sub_zero, get_or_take n l i 0 k) (low i k))
+    rw e (good, λ i below. let k = rw (sub-zero, length-take-le n l fits) at below in rw (sub-zero, get_or-take n l i 0 k) (low i k))
 
 module _ (s t out : List ℕ) {r : Listing} {new : List ℕ} {v : Verdict} {n : ℕ} (e : listed r new ≡ list_call s t out) (d : r ≡ Faults v n) where
   -- a listing that is not refused: no rule holds, and the whole list is counted and written
@@ -55,7 +55,7 @@ module _ (s t out : List ℕ) {r : Listing} {new : List ℕ} {v : Verdict} {n : 
   unfolding list_rules
   listing_formed =
       let j = ruling_joined (form_rules s t) _ listing_done.0 in
-      (rules_formed s t j.0, ltb_false _ _ ((fine_when _).0 j.1).0)
+      (rules_formed s t j.0, ltb-false _ _ ((fine_when _).0 j.1).0)
 
   -- it has a session's bytes,
   pub listing_room : session_size ≤ length s
@@ -73,5 +73,5 @@ module _ (s t out : List ℕ) {r : Listing} {new : List ℕ} {v : Verdict} {n : 
   pub listing_in_use : (i : ℕ) → i < n → get_or new i 0 < numbers (head_of s)
   listing_in_use i h =
       let l : i < length (list_of s t) = omega (arith, listing_done.1.0) in
-      let w = rw zero_add at (filled_in out 0 (list_of s t) i l (omega (arith, listing_formed.1))) in
+      let w = rw zero-add at (filled_in out 0 (list_of s t) i l (omega (arith, listing_formed.1))) in
       rw (listing_done.1.1, w) (list_in_use s t i l)

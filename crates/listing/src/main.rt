@@ -1,5 +1,7 @@
 // The listing program (document 01, "The listing program"): reads a table file followed at once by a record from standard input, and
 // prints the verdict, how many faults are listed, and each of them; or the refusal.
+#![tactic(auto)]
+
 ghost use Rattle.std.specs.Prelude.{◌≡◌, ℕ, ◌≤◌, ◌<◌, min, length, get_or};
 ghost use Rattle.machine.specs.Head.{HeadIn, numbers};
 ghost use Rattle.house.specs.File.{first_end};

@@ -4,7 +4,7 @@ use Prim.Native.Nat.{ℕ}
 use mathlib.Core.Path.{◌≡◌, refl}
 use mathlib.Core.List.{List}
 use mathlib.Core.Bool.{Bool, true, false, cond}
-use borrow.Author.Tests.{leb_true, leb_false, eqb_true, le_leb}
+use borrow.Author.Tests.{leb-true, leb-false, eqb-true, le-leb}
 use lib.ListN.{length}
 use native.Mathlib.Omega.{arith}
 use Rattle.shapes.specs.First.{first}
@@ -25,12 +25,12 @@ head_in_law h e =
     let k = and_true _ _ b.1 in
     let m = and_true _ _ a.1 in
     record {
-      some_states = leb_true _ _ n.0;
-      few_states = leb_true _ _ n.1;
-      some_inputs = leb_true _ _ k.0;
-      few_inputs = leb_true _ _ k.1;
-      some_outputs = leb_true _ _ m.0;
-      few_outputs = leb_true _ _ m.1;
+      some_states = leb-true _ _ n.0;
+      few_states = leb-true _ _ n.1;
+      some_inputs = leb-true _ _ k.0;
+      few_inputs = leb-true _ _ k.1;
+      some_outputs = leb-true _ _ m.0;
+      few_outputs = leb-true _ _ m.1;
     }
 
 -- and a head passes it
@@ -38,7 +38,7 @@ pub head_good : (h : Head) → HeadIn h → good_head h ≡ true
 unfolding good_head
 head_good h k =
     rw
-    (le_leb _ _ k.some_states, le_leb _ _ k.few_states, le_leb _ _ k.some_inputs, le_leb _ _ k.few_inputs, le_leb _ _ k.some_outputs, le_leb _ _ k.few_outputs)
+    (le-leb _ _ k.some_states, le-leb _ _ k.few_states, le-leb _ _ k.some_inputs, le-leb _ _ k.few_inputs, le-leb _ _ k.some_outputs, le-leb _ _ k.few_outputs)
 
 -- a head that was made is a head, and the three numbers are its own
 pub made_head_law : (n k m : ℕ) (h : Head) → made_head n k m ≡ Made h
@@ -73,10 +73,10 @@ case_in h is ys e =
     let b = and_true _ _ a.0 in
     let l = and_true _ _ b.0 in
     record {
-      some_steps = leb_true _ _ l.0;
-      few_steps = leb_true _ _ l.1;
-      even = eqb_true _ _ b.1;
-      sound = eqb_true _ _ a.1;
+      some_steps = leb-true _ _ l.0;
+      few_steps = leb-true _ _ l.1;
+      even = eqb-true _ _ b.1;
+      sound = eqb-true _ _ a.1;
     }
 
 -- at each step of a case the input is one of the head's
@@ -84,4 +84,4 @@ pub case_step : (h : Head) (is ys : List ℕ) → CaseIn h is ys → InputsIn h 
 unfolding first_bad_step bad_step
 case_step h is ys k t l =
     let e : first (bad_step h is ys) 0 (length is) ≡ length is = k.sound in
-    leb_false _ _ (or_false _ _ (first_before (bad_step h is ys) 0 (length is) t (omega arith) (omega arith))).0
+    leb-false _ _ (or_false _ _ (first_before (bad_step h is ys) 0 (length is) t (omega arith) (omega arith))).0

@@ -5,9 +5,9 @@ use Prim.Native.Nat.{ℕ, ◌+◌, ◌-◌, ◌/◌, ◌%◌, ◌<◌}
 use mathlib.Core.Path.{◌≡◌, refl, fun_ext, ap}
 use mathlib.Core.List.{List}
 use mathlib.Core.Bool.{Bool, true, false, cond}
-use borrow.Author.Tests.{ltb_true, ltb_false, eqb_true}
+use borrow.Author.Tests.{ltb-true, ltb-false, eqb-true}
 use lib.Dec.{eqb, ltb}
-use native.Mathlib.Nat.{mod_lt, zero_div, div_add_mod'}
+use native.Mathlib.Nat.{mod-lt, zero-div, div-add-mod'}
 use native.Mathlib.Omega.{arith}
 use Rattle.machine.specs.Head.{HeadIn, cell_count, width, numbers}
 use Rattle.machine.specs.Cell.{TableIn}
@@ -31,11 +31,11 @@ fault_number_law h f = go (ltb (f % width h) h.outputs) refl
   where
     go : (b : Bool) → ltb (f % width h) h.outputs ≡ b
         → fault_number h (cond b (record { cell = f / width h; kind = Output; value = f % width h }) (record { cell = f / width h; kind = Transfer; value = f % width h - h.outputs })) ≡ f
-    go true e = div_add_mod' f (width h)
+    go true e = div-add-mod' f (width h)
     go false e =
-        let l = ltb_false (f % width h) h.outputs e in
+        let l = ltb-false (f % width h) h.outputs e in
         let back : h.outputs + (f % width h - h.outputs) ≡ f % width h = omega arith in
-        rw back (div_add_mod' f (width h))
+        rw back (div-add-mod' f (width h))
 
 -- a number that makes no fault is not in use
 pub made_none : (h : Head) (f : ℕ) → made_fault h f ≡ Nothing → ltb f (numbers h) ≡ false
@@ -64,18 +64,18 @@ fault_in h in_range f used = go (ltb (f % width h) h.outputs) refl
     some = omega (arith, in_range.some_states)
 
     a_cell : f / width h < cell_count h
-    a_cell = number_cell (cell_count h) (width h) f some (ltb_true f (numbers h) used)
+    a_cell = number_cell (cell_count h) (width h) f some (ltb-true f (numbers h) used)
 
     a_value : f % width h < width h
-    a_value = mod_lt f some
+    a_value = mod-lt f some
 
     go : (b : Bool) → ltb (f % width h) h.outputs ≡ b
         → FaultIn h
         (cond b
         (record { cell = f / width h; kind = Output; value = f % width h })
         (record { cell = f / width h; kind = Transfer; value = f % width h - h.outputs }))
-    go true e = record { cell_in = a_cell; value_in = ltb_true (f % width h) h.outputs e }
-    go false e = record { cell_in = a_cell; value_in = omega (arith, a_value, ltb_false (f % width h) h.outputs e) }
+    go true e = record { cell_in = a_cell; value_in = ltb-true (f % width h) h.outputs e }
+    go false e = record { cell_in = a_cell; value_in = omega (arith, a_value, ltb-false (f % width h) h.outputs e) }
 
 -- a changed move leads to a state where the move did and the value is one of its kind's
 altered_in : (h : Head) (kind : Kind) (v : ℕ) (to : Move) → v < values h kind → to.next < h.states → (altered kind v to).next < h.states
@@ -101,14 +101,14 @@ unfolding under
 under_same M d e = ap (λ (g : ℕ → Move). record { inputs = M.inputs; does = g }) (fun_ext (λ c. go c (eqb c d.cell) refl))
   where
     go : (c : ℕ) (b : Bool) → eqb c d.cell ≡ b → cond b d.to (M.does c) ≡ M.does c
-    go c true here = rw (eqb_true c d.cell here) e
+    go c true here = rw (eqb-true c d.cell here) e
     go c false here = refl
 
 -- as is one that puts at cell 0 what the table has there
 pub first_cell_same : (h : Head) (cells : List ℕ) (to : Move) → to ≡ completed cells initial 0
     → under (specified h cells) (change_at 0 to) ≡ specified h cells
 unfolding specified
-first_cell_same h cells to e = under_same (specified h cells) (change_at 0 to) (rw zero_div e)
+first_cell_same h cells to e = under_same (specified h cells) (change_at 0 to) (rw zero-div e)
 
 -- "A number whose value equals the cell's own leaves the machine the same"
 pub changed_same : (h : Head) (cells : List ℕ) (f : ℕ)

@@ -4,12 +4,12 @@ use Prim.Native.Nat.{ℕ, suc, ◌+◌, ◌*◌, ◌%◌, ◌≤◌, ◌<◌}
 use mathlib.Core.Path.{◌≡◌, refl, sym, ◌∙◌}
 use mathlib.Core.List.{List, [], ◌∷◌}
 use mathlib.Core.Bool.{Bool, true, false, cond, ◌||◌, false≢true}
-use native.Mathlib.Numerals.{add_one}
+use native.Mathlib.Numerals.{add-one}
 use native.Mathlib.Omega.{arith}
 use lib.Dec.{eqb}
-use lib.ListN.{length, get_or, set, drop, length_set, drop_of_length_le}
-use lib.Seq.{drop_cons, get_or_set_same, get_or_set_other}
-use borrow.Author.Tests.{eqb_true, eqb_false}
+use lib.ListN.{length, get_or, set, drop, length-set, drop_of_length-le}
+use lib.Seq.{drop-cons, get_or-set_same, get_or-set_other}
+use borrow.Author.Tests.{eqb-true, eqb-false}
 use Rattle.shapes.specs.Keep.{has}
 use Rattle.machine.specs.Head.{HeadIn, cell_count}
 use Rattle.machine.specs.Cell.{TableIn}
@@ -42,21 +42,21 @@ marking_goes_on h M is out₀ t s out c x m l ec ex lx =
     record {
       inside = omega arith;
       state_in = lx;
-      long = length_set out c _ ∙ m.long;
-      whole = rw (ec, ex, add_one) (rw (drop_cons is t 0 l) at m.whole);
+      long = length-set out c _ ∙ m.long;
+      whole = rw (ec, ex, add-one) (rw (drop-cons is t 0 l) at m.whole);
     }
 
 -- and ends with the whole marked
 pub marking_ends : (h : Head) (M : Machine) (is out₀ : List ℕ) (t s : ℕ) (out : List ℕ) → Marking h M is out₀ t s out → length is ≤ t
     → out ≡ marked (executed M is) out₀
 unfolding path marked
-marking_ends h M is out₀ t s out m l = rw (drop_of_length_le is l) at m.whole
+marking_ends h M is out₀ t s out m l = rw (drop_of_length-le is l) at m.whole
 
 -- a marked list is as long
 pub length_marked : (cs out : List ℕ) → length (marked cs out) ≡ length out
 unfolding marked
 length_marked [] out = refl
-length_marked (c ∷ cs) out = length_marked cs (set out c (get_or out c 0 % 2 + 2)) ∙ length_set out c _
+length_marked (c ∷ cs) out = length_marked cs (set out c (get_or out c 0 % 2 + 2)) ∙ length-set out c _
 
 -- a mark put once more changes nothing
 marked_again : (v : ℕ) → (v % 2 + 2) % 2 + 2 ≡ v % 2 + 2
@@ -68,17 +68,17 @@ pub marked_at : (cs out : List ℕ) (c : ℕ) → c < length out
 unfolding marked has
 marked_at [] out c l = refl
 marked_at (d ∷ cs) out c l =
-    marked_at cs (set out d (get_or out d 0 % 2 + 2)) c (rw length_set l) ∙ go (eqb c d) refl (has c cs)
+    marked_at cs (set out d (get_or out d 0 % 2 + 2)) c (rw length-set l) ∙ go (eqb c d) refl (has c cs)
   where
     there : List ℕ
     there = set out d (get_or out d 0 % 2 + 2)
 
     go : (b : Bool) → eqb c d ≡ b → (k : Bool)
         → cond k (get_or there c 0 % 2 + 2) (get_or there c 0) ≡ cond (b || k) (get_or out c 0 % 2 + 2) (get_or out c 0)
-    go true e true = rw (sym (eqb_true c d e), get_or_set_same out c _ 0 l) (marked_again (get_or out c 0))
-    go true e false = rw (sym (eqb_true c d e), get_or_set_same out c _ 0 l)
-    go false e true = rw (get_or_set_other out d c _ 0 (eqb_false c d e))
-    go false e false = rw (get_or_set_other out d c _ 0 (eqb_false c d e))
+    go true e true = rw (sym (eqb-true c d e), get_or-set_same out c _ 0 l) (marked_again (get_or out c 0))
+    go true e false = rw (sym (eqb-true c d e), get_or-set_same out c _ 0 l)
+    go false e true = rw (get_or-set_other out d c _ 0 (eqb-false c d e))
+    go false e false = rw (get_or-set_other out d c _ 0 (eqb-false c d e))
 
 -- so a cell at which a 0 stands was not executed
 pub unmarked : (cs out : List ℕ) (c : ℕ) → c < length out → get_or (marked cs out) c 0 ≡ 0 → has c cs ≡ false
@@ -99,7 +99,7 @@ path_in M n stays s ls (i ∷ is) within c e =
   where
     go : (b : Bool) → eqb c (cell_number M.inputs s i) ≡ b → (has c (path M (M.does (cell_number M.inputs s i)).next is) ≡ true → c < n * M.inputs)
         → (b || has c (path M (M.does (cell_number M.inputs s i)).next is)) ≡ true → c < n * M.inputs
-    go true here rest e = omega (arith, eqb_true c (cell_number M.inputs s i) here, cell_below n M.inputs s i ls (within 0 (omega arith)))
+    go true here rest e = omega (arith, eqb-true c (cell_number M.inputs s i) here, cell_below n M.inputs s i ls (within 0 (omega arith)))
     go false here rest e = rest e
 
 -- so is every cell that the specified machine executes in a case

@@ -4,7 +4,7 @@ use Prim.Native.Nat.{ℕ, ◌+◌, ◌*◌, ◌<◌}
 use mathlib.Core.Path.{◌≡◌, sym, ◌∙◌}
 use mathlib.Core.List.{List}
 use mathlib.Core.Bool.{Bool, true, false, cond, not, ◌&&◌, ◌||◌}
-use borrow.Author.Tests.{leb_false, eq_eqb, ne_eqb}
+use borrow.Author.Tests.{leb-false, eq-eqb, ne_eqb}
 use lib.Dec.{leb}
 use native.Mathlib.Omega.{arith}
 use Rattle.shapes.specs.First.{first}
@@ -36,7 +36,7 @@ sound_cell h cells t c l =
 leads : (n m s next output : ℕ) (b : Bool) → not b && (leb n next || leb m output) ≡ false → s < n
     → (cond {A = Move} b (record { next = s; output = 0 }) (record { next = next; output = output })).next < n
 leads n m s next output true e l = l
-leads n m s next output false e l = leb_false n next (or_false (leb n next) (leb m output) e).0
+leads n m s next output false e l = leb-false n next (or_false (leb n next) (leb m output) e).0
 
 -- the move at a cell of a sound table leads to a state
 pub completed_in : (h : Head) (cells : List ℕ) → TableIn h cells → (s c : ℕ) → s < h.states → c < cell_count h
@@ -54,7 +54,7 @@ specified_move h cells t s i c r ls li e lc x = (rw (specified_does h cells s i 
 -- the machine with one change makes the changed move at its cell ..
 pub changed_here : (M : Machine) (d : Change) (c at : ℕ) → c ≡ at → c ≡ d.cell → d.to ≡ (under M d).does at
 unfolding under
-changed_here M d c at e x = rw (eq_eqb at d.cell (sym e ∙ x))
+changed_here M d c at e x = rw (eq-eqb at d.cell (sym e ∙ x))
 
 -- .. and the other machine's move elsewhere
 pub changed_elsewhere : (M : Machine) (d : Change) (c at : ℕ) (r : Move) → c ≡ at → (c ≡ d.cell → ⊥) → r ≡ M.does at → r ≡ (under M d).does at

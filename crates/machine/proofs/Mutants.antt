@@ -7,11 +7,11 @@ use mathlib.Core.Path.{◌≡◌, refl, sym, fun_ext, ap, ◌∙◌}
 use mathlib.Core.List.{List}
 use mathlib.Core.Logic.{◌↔◌}
 use mathlib.Core.Bool.{Bool, true, false, cond, not, ◌&&◌, ◌||◌}
-use borrow.Author.Tests.{lt_ltb, le_ltb, lt_leb, leb_false, ltb_true, ne_eqb, eqb_true, eqb_false, not_true}
+use borrow.Author.Tests.{lt-ltb, le-ltb, lt-leb, leb-false, ltb-true, ne_eqb, eqb-true, eqb-false, not-true}
 use lib.Dec.{eqb, ltb, leb}
-use lib.ListN.{length, get_or, set, length_set}
-use lib.Seq.{get_or_set_same, get_or_set_other}
-use native.Mathlib.Nat.{add_comm, add_mul_mod_self_right, mod_eq_of_lt}
+use lib.ListN.{length, get_or, set, length-set}
+use lib.Seq.{get_or-set_same, get_or-set_other}
+use native.Mathlib.Nat.{add_comm, add-mul-mod_self_right, mod-eq_of_lt}
 use native.Mathlib.Omega.{arith}
 use Rattle.shapes.proofs.First.{first_none}
 use Rattle.shapes.proofs.Tests.{and_true, or_false}
@@ -31,7 +31,7 @@ use Rattle.machine.proofs.Faults.{fault_in, change_in}
 
 -- the j of a number "c × (n + m) + j" is its remainder
 number_rest : (w c j : ℕ) → j < w → (c * w + j) % w ≡ j
-number_rest w c j h = rw (add_comm (c * w) j, add_mul_mod_self_right j c w, mod_eq_of_lt h)
+number_rest w c j h = rw (add_comm (c * w) j, add-mul-mod_self_right j c w, mod-eq_of_lt h)
 
 -- a cell, a kind and a value in range have a number in use, and it stands for them
 numbered_kind : (h : Head) (c : ℕ) (kind : Kind) (v : ℕ) → c < cell_count h → v < values h kind
@@ -39,13 +39,13 @@ numbered_kind : (h : Head) (c : ℕ) (kind : Kind) (v : ℕ) → c < cell_count 
 unfolding fault_of
 numbered_kind h c Output v lc lv =
     let l : v < width h = omega arith in
-    (cell_below (cell_count h) (width h) c v lc l, rw (cell_state (width h) c v l, number_rest (width h) c v l, lt_ltb v h.outputs lv))
+    (cell_below (cell_count h) (width h) c v lc l, rw (cell_state (width h) c v l, number_rest (width h) c v l, lt-ltb v h.outputs lv))
 numbered_kind h c Transfer v lc lv =
     let j : ℕ = h.outputs + v in
     let l : j < width h = omega arith in
     let back : h.outputs + v - h.outputs ≡ v = omega arith in (
       cell_below (cell_count h) (width h) c j lc l,
-      rw (cell_state (width h) c j l, number_rest (width h) c j l, le_ltb j h.outputs (omega arith), back),
+      rw (cell_state (width h) c j l, number_rest (width h) c j l, le-ltb j h.outputs (omega arith), back),
     )
 
 -- every fault has a number: for each cell, kind and value in range a number in use stands for it (the converse of `fault-number`)
@@ -83,8 +83,8 @@ held_machine h cells cells' c to k ln w =
     ap (λ (g : ℕ → Move). record { inputs = h.inputs; does = g }) (fun_ext (λ b. go b (eqb b c) refl))
   where
     go : (b : ℕ) (t : Bool) → eqb b c ≡ t → cond t to (completed cells (b / h.inputs) b) ≡ completed cells' (b / h.inputs) b
-    go b true e = rw (eqb_true b c e, defined_there h cells cells' c to k ln w, w.next_there, w.output_there)
-    go b false e = let same = bytes_elsewhere cells cells' c to w b (eqb_false b c e) in rw (same.0, same.1)
+    go b true e = rw (eqb-true b c e, defined_there h cells cells' c to k ln w, w.next_there, w.output_there)
+    go b false e = let same = bytes_elsewhere cells cells' c to w b (eqb-false b c e) in rw (same.0, same.1)
 
 -- and no cell of theirs is bad, where the move is one of the head's
 held_cell : (h : Head) (cells cells' : List ℕ) (c : ℕ) (to : Move) → TableIn h cells → to.next < h.states → to.output < h.outputs
@@ -95,8 +95,8 @@ held_cell h cells cells' c to t ln lo w b l = go (eqb b c) refl
     go : (s : Bool) → eqb b c ≡ s → bad_cell h cells' b ≡ false
     go true e =
         rw
-        (eqb_true b c e, defined_there h cells cells' c to t.head ln w, w.next_there, w.output_there, lt_leb h.states to.next ln, lt_leb h.outputs to.output lo)
-    go false e = let same = bytes_elsewhere cells cells' c to w b (eqb_false b c e) in rw (same.0, same.1) (sound_cell h cells t b l)
+        (eqb-true b c e, defined_there h cells cells' c to t.head ln w, w.next_there, w.output_there, lt-leb h.states to.next ln, lt-leb h.outputs to.output lo)
+    go false e = let same = bytes_elsewhere cells cells' c to w b (eqb-false b c e) in rw (same.0, same.1) (sound_cell h cells t b l)
 
 -- so they are again those of a sound table
 held_table : (h : Head) (cells cells' : List ℕ) (c : ℕ) (to : Move) → TableIn h cells → to.next < h.states → to.output < h.outputs
@@ -111,17 +111,17 @@ held_altered : (cells cells' : List ℕ) (c : ℕ) (to : Move) (kind : Kind) (v 
     → Holds cells (set cells' (byte_of kind c) v) c (altered kind v to)
 held_altered cells cells' c to Output v room w =
     record {
-      same_length = length_set cells' (2 * c + 1) v ∙ w.same_length;
-      next_there = get_or_set_other cells' (2 * c + 1) (2 * c) v 0 (λ e. omega arith) ∙ w.next_there;
-      output_there = get_or_set_same cells' (2 * c + 1) v 0 (omega (arith, w.same_length));
-      elsewhere = λ i a b. get_or_set_other cells' (2 * c + 1) i v 0 b ∙ w.elsewhere i a b;
+      same_length = length-set cells' (2 * c + 1) v ∙ w.same_length;
+      next_there = get_or-set_other cells' (2 * c + 1) (2 * c) v 0 (λ e. omega arith) ∙ w.next_there;
+      output_there = get_or-set_same cells' (2 * c + 1) v 0 (omega (arith, w.same_length));
+      elsewhere = λ i a b. get_or-set_other cells' (2 * c + 1) i v 0 b ∙ w.elsewhere i a b;
     }
 held_altered cells cells' c to Transfer v room w =
     record {
-      same_length = length_set cells' (2 * c) v ∙ w.same_length;
-      next_there = get_or_set_same cells' (2 * c) v 0 (omega (arith, w.same_length));
-      output_there = get_or_set_other cells' (2 * c) (2 * c + 1) v 0 (λ e. omega arith) ∙ w.output_there;
-      elsewhere = λ i a b. get_or_set_other cells' (2 * c) i v 0 a ∙ w.elsewhere i a b;
+      same_length = length-set cells' (2 * c) v ∙ w.same_length;
+      next_there = get_or-set_same cells' (2 * c) v 0 (omega (arith, w.same_length));
+      output_there = get_or-set_other cells' (2 * c) (2 * c + 1) v 0 (λ e. omega arith) ∙ w.output_there;
+      elsewhere = λ i a b. get_or-set_other cells' (2 * c) i v 0 a ∙ w.elsewhere i a b;
     }
 
 -- a table's cells hold at a defined cell the specified machine's move
@@ -144,7 +144,7 @@ completed_held h cells c room e =
 gives : (n m s next output : ℕ) (b : Bool) → not b && (leb n next || leb m output) ≡ false → 0 < m
     → (cond {A = Move} b (record { next = s; output = 0 }) (record { next = next; output = output })).output < m
 gives n m s next output true e l = l
-gives n m s next output false e l = leb_false m output (or_false (leb n next) (leb m output) e).1
+gives n m s next output false e l = leb-false m output (or_false (leb n next) (leb m output) e).1
 
 -- and so does the move altered to a value of its kind
 altered_gives : (h : Head) (kind : Kind) (v : ℕ) (to : Move) → v < values h kind → to.output < h.outputs
@@ -213,13 +213,13 @@ completed_table h cells x t k e =
 pub mutant_elsewhere : (cells : List ℕ) (x : Fault) (i : ℕ) → (i ≡ byte_of x.kind x.cell → ⊥)
     → get_or (mutant cells x) i 0 ≡ get_or cells i 0
 unfolding mutant
-mutant_elsewhere cells x i other = get_or_set_other cells (byte_of x.kind x.cell) i x.value 0 other
+mutant_elsewhere cells x i other = get_or-set_other cells (byte_of x.kind x.cell) i x.value 0 other
 
 -- so the machine of a number on a defined cell is that of the table with its one byte changed
 pub changed_mutant : (h : Head) (cells : List ℕ) (f : ℕ) → TableIn h cells → f < numbers h → undefined cells (fault_of h f).cell ≡ false
     → changed h cells f ≡ specified h (mutant cells (fault_of h f))
 unfolding changed
-changed_mutant h cells f t l d = mutant_machine h cells (fault_of h f) t (fault_in h t.head f (lt_ltb f (numbers h) l)) d
+changed_mutant h cells f t l d = mutant_machine h cells (fault_of h f) t (fault_in h t.head f (lt-ltb f (numbers h) l)) d
 
 -- the part of a defined cell's move that a fault of a kind changes is the byte there
 own_byte : (h : Head) (cells : List ℕ) (c : ℕ) (kind : Kind) → undefined cells c ≡ false
@@ -240,12 +240,12 @@ fault_exactly h cells f = (there, back)
     there e =
         let a = and_true (ltb f (numbers h)) _ e in
         let b = and_true (not (undefined cells x.cell)) _ a.1 in
-        let d = not_true (undefined cells x.cell) b.0 in (
-          ltb_true f (numbers h) a.0,
-          record { on_defined = d; other_value = λ q. eqb_false _ _ (not_true _ b.1) (q ∙ sym (own_byte h cells x.cell x.kind d)) },
+        let d = not-true (undefined cells x.cell) b.0 in (
+          ltb-true f (numbers h) a.0,
+          record { on_defined = d; other_value = λ q. eqb-false _ _ (not-true _ b.1) (q ∙ sym (own_byte h cells x.cell x.kind d)) },
         )
 
     back : (f < numbers h) × OtherByte cells x → is_fault h cells f ≡ true
     back k =
         let d = k.1.on_defined in
-        rw (lt_ltb f (numbers h) k.0, d, own_byte h cells x.cell x.kind d, ne_eqb x.value _ k.1.other_value)
+        rw (lt-ltb f (numbers h) k.0, d, own_byte h cells x.cell x.kind d, ne_eqb x.value _ k.1.other_value)

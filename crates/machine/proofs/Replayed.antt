@@ -4,13 +4,13 @@ use Prim.Native.Nat.{ℕ, suc, ◌+◌, ◌≤◌, ◌<◌}
 use mathlib.Core.Path.{◌≡◌, refl, sym, ◌∙◌}
 use mathlib.Core.List.{List, [], ◌∷◌}
 use mathlib.Core.Bool.{Bool, true, false, cond}
-use native.Mathlib.Nat.{zero_add}
-use native.Mathlib.Numerals.{add_one}
+use native.Mathlib.Nat.{zero-add}
+use native.Mathlib.Numerals.{add-one}
 use native.Mathlib.Omega.{arith}
 use lib.Dec.{eqb}
-use lib.ListN.{length, drop, get_or, drop_of_length_le}
-use lib.Seq.{drop_cons}
-use borrow.Author.Tests.{eq_eqb, ne_eqb}
+use lib.ListN.{length, drop, get_or, drop_of_length-le}
+use lib.Seq.{drop-cons}
+use borrow.Author.Tests.{eq-eqb, ne_eqb}
 use Rattle.machine.specs.Limits.{steps_most}
 use Rattle.machine.specs.Head.{HeadIn}
 use Rattle.machine.specs.Machine.{Machine, cell_number}
@@ -27,12 +27,12 @@ use Rattle.machine.proofs.Run.{reproduces_symptoms}
 pub replay_turn : (M : Machine) (r : Replay) (is ys : List ℕ) (t : ℕ) → t < length is → t < length ys
     → replayed M r (drop t is) (drop t ys) ≡ replayed M (taken M r (get_or is t 0) (get_or ys t 0)) (drop (t + 1) is) (drop (t + 1) ys)
 unfolding replayed
-replay_turn M r is ys t inside seen = rw (add_one, drop_cons is t 0, drop_cons ys t 0)
+replay_turn M r is ys t inside seen = rw (add-one, drop-cons is t 0, drop-cons ys t 0)
 
 -- a loop's end
 pub replay_ended : (M : Machine) (r : Replay) (is ys : List ℕ) (t : ℕ) → length is ≤ t → replayed M r (drop t is) (drop t ys) ≡ r
 unfolding replayed
-replay_ended M r is ys t h = rw (drop_of_length_le is h)
+replay_ended M r is ys t h = rw (drop_of_length-le is h)
 
 -- what holds after a step that agrees and after one that does not holds after the step
 either_way : (M : Machine) (r : Replay) (i y : ℕ) (P : Bool → Replay → Type 0) → P true (passed r (M.does (cell_number M.inputs r.state i)))
@@ -75,19 +75,19 @@ replay_first M r [] ys none h = h
 replay_first M r (i ∷ is) [] none h = h
 replay_first M r (i ∷ is) (y ∷ ys) none h =
     let to = M.does (cell_number M.inputs r.state i) in
-    let here : eqb r.symptoms 0 ≡ true = eq_eqb r.symptoms 0 none in
+    let here : eqb r.symptoms 0 ≡ true = eq-eqb r.symptoms 0 none in
     either_way M r i y (λ b q. (replayed M q is ys).first ≡ cond b (first_differing (suc r.step) (run M to.next is) ys) r.step)
-    (rw (← add_one r.step) (replay_first M (passed r to) is ys none h)) (replay_kept M (failed r to) is ys (omega arith) ∙ rw here)
+    (rw (← add-one r.step) (replay_first M (passed r to) is ys none h)) (replay_kept M (failed r to) is ys (omega arith) ∙ rw here)
 
 -- a fresh replay ends with the symptoms of the case
 pub replay_symptoms : (M : Machine) (is ys : List ℕ)
     → symptoms_of M is ys ≡ record { count = (replayed M fresh is ys).symptoms; first = (replayed M fresh is ys).first }
 unfolding symptoms_of expected fresh
-replay_symptoms M is ys = rw (replay_count, replay_first M fresh is ys refl refl, zero_add)
+replay_symptoms M is ys = rw (replay_count, replay_first M fresh is ys refl refl, zero-add)
 
 -- a replay with no symptom at the end is one of a machine that reproduces the case
 pub replay_reproduces : (M : Machine) (is ys : List ℕ) → (replayed M fresh is ys).symptoms ≡ 0 → reproduces M is ys ≡ true
-replay_reproduces M is ys h = rw (reproduces_symptoms, replay_symptoms) (eq_eqb _ _ h)
+replay_reproduces M is ys h = rw (reproduces_symptoms, replay_symptoms) (eq-eqb _ _ h)
 
 -- a step taken from a move is the machine's where the move is
 pub taken_is : (M : Machine) (r : Replay) (to : Move) (i y : ℕ) (x : Replay) → to ≡ M.does (cell_number M.inputs r.state i) → x ≡ stepped r to y

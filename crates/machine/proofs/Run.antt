@@ -5,11 +5,11 @@ use mathlib.Core.Path.{◌≡◌, refl, sym, ap}
 use mathlib.Core.List.{List, [], ◌∷◌}
 use mathlib.Core.Bool.{Bool, true, false, cond, ◌&&◌, true≢false}
 use mathlib.Core.Logic.{◌↔◌}
-use native.Mathlib.Nat.{zero_add}
+use native.Mathlib.Nat.{zero-add}
 use native.Mathlib.Omega.{arith}
-use lib.Dec.{eqb, eqb_suc_zero}
+use lib.Dec.{eqb, eqb-suc-zero}
 use lib.ListN.{length, take, get_or}
-use borrow.Author.Tests.{eqb_false, ne_eqb}
+use borrow.Author.Tests.{eqb-false, ne_eqb}
 use Rattle.shapes.proofs.Tests.{and_true, or_false}
 use Rattle.shapes.specs.Keep.{has}
 use Rattle.machine.specs.Limits.{steps_most}
@@ -53,7 +53,7 @@ run_never M d s [] h = refl
 run_never M d s (i ∷ is) h =
     let c : ℕ = cell_number M.inputs s i in
     let apart : (eqb d.cell c ≡ false) × (has d.cell (path M (M.does c).next is) ≡ false) = or_false _ _ h in
-    let other : eqb c d.cell ≡ false = ne_eqb c d.cell (λ e. eqb_false d.cell c apart.0 (sym e)) in
+    let other : eqb c d.cell ≡ false = ne_eqb c d.cell (λ e. eqb-false d.cell c apart.0 (sym e)) in
     rw other (ap (λ (l : List ℕ). (M.does c).output ∷ l) (run_never M d (M.does c).next is apart.1))
 
 -- so it gives them until the changed cell is first executed
@@ -103,7 +103,7 @@ matching_differing (g ∷ gs) (y ∷ ys) = go (agrees y g) (matching_differing g
     go : (b : Bool) → matching gs ys ≡ eqb (differing gs ys) 0
         → (b && matching gs ys) ≡ eqb (cond b (differing gs ys) (suc (differing gs ys))) 0
     go true rest = rest
-    go false rest = sym (eqb_suc_zero (differing gs ys))
+    go false rest = sym (eqb-suc-zero (differing gs ys))
 
 -- a machine reproduces a case exactly if the case has no symptom against it
 pub reproduces_symptoms : (M : Machine) (is ys : List ℕ) → reproduces M is ys ≡ eqb (symptoms_of M is ys).count 0
@@ -168,7 +168,7 @@ first_step M is ys h = let r = first_differing_law 0 (expected M is) ys h in ome
 pub first_differs : (M : Machine) (is ys : List ℕ) → reproduces M is ys ≡ false
     → agrees (get_or ys (symptoms_of M is ys).first 0) (get_or (expected M is) (symptoms_of M is ys).first 0) ≡ false
 unfolding reproduces symptoms_of
-first_differs M is ys h = let r = first_differing_law 0 (expected M is) ys h in rw (r.1, zero_add) r.2.differs
+first_differs M is ys h = let r = first_differing_law 0 (expected M is) ys h in rw (r.1, zero-add) r.2.differs
 
 pub first_agrees : (M : Machine) (is ys : List ℕ) → length ys ≡ length is → (t : ℕ) → t < length is → t < (symptoms_of M is ys).first
     → agrees (get_or ys t 0) (get_or (expected M is) t 0) ≡ true

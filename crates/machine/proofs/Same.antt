@@ -7,7 +7,7 @@ use mathlib.Core.List.{List, [], ◌∷◌}
 use mathlib.Core.Bool.{Bool, true, false, cond, ◌&&◌}
 use native.Mathlib.Omega.{arith}
 use lib.Dec.{eqb, ltb}
-use borrow.Author.Tests.{lt_ltb}
+use borrow.Author.Tests.{lt-ltb}
 use Rattle.machine.specs.Head.{HeadIn, cell_count, numbers}
 use Rattle.machine.specs.Cell.{undefined, TableIn, SameCells}
 use Rattle.machine.specs.Machine.{Machine, initial, cell_number, completed, specified}
@@ -130,7 +130,7 @@ pub changed_same_cells : (h : Head) (cells cells' : List ℕ) → TableIn h cell
     → Alike h (changed h cells f) (changed h cells' f)
 unfolding changed
 changed_same_cells h cells cells' t same f l =
-    faulty_same h cells cells' t same (fault_of h f) (fault_in h t.head f (lt_ltb f (numbers h) l))
+    faulty_same h cells cells' t same (fault_of h f) (fault_in h t.head f (lt-ltb f (numbers h) l))
 
 -- the same numbers are faults
 pub fault_same : (h : Head) (cells cells' : List ℕ) → HeadIn h → SameCells h cells cells' → (f : ℕ) → is_fault h cells f ≡ is_fault h cells' f

@@ -3,7 +3,7 @@
 use Prim.Native.Nat.{ℕ, ◌+◌, ◌*◌, ◌≤◌, ◌<◌}
 use mathlib.Core.Path.{◌≡◌}
 use mathlib.Core.List.{List}
-use native.Mathlib.Nat.{mul_le_mul}
+use native.Mathlib.Nat.{mul-le-mul}
 use native.Mathlib.Omega.{arith}
 use lib.ListN.{get_or}
 use Rattle.shapes.proofs.First.{first_same, first_high}
@@ -14,11 +14,11 @@ use Rattle.machine.specs.declared.head.Head.{Head}
 
 -- a table has at most 256 cells
 pub cells_few : (h : Head) → HeadIn h → cell_count h ≤ cells_most
-cells_few h k = mul_le_mul k.few_states k.few_inputs
+cells_few h k = mul-le-mul k.few_states k.few_inputs
 
 -- and at most 8,192 numbers
 pub numbers_few : (h : Head) → HeadIn h → numbers h ≤ numbers_most
-numbers_few h k = let w : width h ≤ states_most + outputs_most = omega arith in mul_le_mul (cells_few h k) w
+numbers_few h k = let w : width h ≤ states_most + outputs_most = omega arith in mul-le-mul (cells_few h k) w
 
 -- the lowest bad cell is one of the cells, or their count
 pub bad_few : (h : Head) (cells : List ℕ) → first_bad h cells ≤ cell_count h

@@ -1,6 +1,7 @@
 // The machine of document 01 and its run: the state table, the table with one change, and the replay of a case.
 // The layers above rest on what this crate says of a run. That the bytes of the cells are a table they ask of it too: files and session
 // know no byte of a cell but by `first_bad`, and diagnosis knows none.
+#![tactic(auto)]
 
 // The head of a table: how many states, inputs and outputs.
 pub mod head;

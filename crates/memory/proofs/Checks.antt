@@ -4,11 +4,11 @@ use Prim.Native.Nat.{ℕ, ◌+◌, ◌-◌, ◌*◌, ◌≤◌, ◌<◌}
 use mathlib.Core.Path.{◌≡◌, refl, sym, ◌∙◌}
 use mathlib.Core.Bool.{Bool, true, false, not}
 use mathlib.Core.List.{List}
-use borrow.Author.Tests.{ltb_false, le_leb, lt_leb, eq_eqb, ne_eqb}
-use native.Mathlib.Numerals.{add_one}
+use borrow.Author.Tests.{ltb-false, le-leb, lt-leb, eq-eqb, ne_eqb}
+use native.Mathlib.Numerals.{add-one}
 use native.Mathlib.Omega.{arith}
 use lib.Dec.{eqb}
-use lib.ListN.{length, get_or, take, drop, length_append, length_take, length_drop}
+use lib.ListN.{length, get_or, take, drop, length-append, length-take, length-drop}
 use mir.Val.{bool_byte}
 use Rattle.shapes.specs.First.{zeros}
 use Rattle.shapes.specs.Refusals.{ruling}
@@ -35,7 +35,7 @@ use Rattle.memory.specs.Loops.{read_place}
 -- a loop's turn: a case more is counted where the place holds one
 pub held_turn : (s : List ℕ) (p x n : ℕ) → x ≡ steps_of s p → n ≡ length (held_to s p) → n + bool_byte (not (eqb x 0)) ≡ length (held_to s (p + 1))
 unfolding held_to
-held_turn s p x n e c = rw (add_one, length_append, e, c) (go (is_held s p))
+held_turn s p x n e c = rw (add-one, length-append, e, c) (go (is_held s p))
   where
     go : (b : Bool) → length (held_to s p) + bool_byte b ≡ length (held_to s p) + length (case_if b (case_of s p))
     go true = refl
@@ -53,7 +53,7 @@ module _ (s : List ℕ) (p : ℕ) {here : Place} (e : here ≡ read_place s p) w
 
   -- it is free where its length byte is 0,
   pub free_here : here.steps ≡ 0 → not (is_held s p) ≡ true
-  free_here z = let z' : steps_of s p ≡ 0 = rw e at z in rw (eq_eqb (steps_of s p) 0 z')
+  free_here z = let z' : steps_of s p ≡ 0 = rw e at z in rw (eq-eqb (steps_of s p) 0 z')
 
   -- and else it holds a case
   pub held_here : (here.steps ≡ 0 → ⊥) → not (is_held s p) ≡ false
@@ -74,23 +74,23 @@ module _ (s : List ℕ) (p : ℕ) where
   -- a place is not good where its length byte is too high,
   pub place_long : steps_most < steps_of s p → good_place s p ≡ false
   unfolding good_place
-  place_long l = rw (lt_leb _ _ l)
+  place_long l = rw (lt-leb _ _ l)
 
   module _ (l : steps_of s p ≤ steps_most) where
     -- nor where it is unclean;
     pub place_unclean : zeros_after s p ≡ false → good_place s p ≡ false
     unfolding good_place
-    place_unclean z = rw (le_leb _ _ l, z)
+    place_unclean z = rw (le-leb _ _ l, z)
 
     -- it is where it is clean and free,
     pub place_free : zeros_after s p ≡ true → steps_of s p ≡ 0 → good_place s p ≡ true
     unfolding good_place
-    place_free z e = rw (le_leb _ _ l, z, eq_eqb (steps_of s p) 0 e)
+    place_free z e = rw (le-leb _ _ l, z, eq-eqb (steps_of s p) 0 e)
 
     -- and else as its case is
     pub place_held : zeros_after s p ≡ true → (steps_of s p ≡ 0 → ⊥) → good_place s p ≡ good_case (head_of s) (case_of s p).inputs (case_of s p).outputs
     unfolding good_place
-    place_held z e = rw (le_leb _ _ l, z, ne_eqb (steps_of s p) 0 e)
+    place_held z e = rw (le-leb _ _ l, z, ne_eqb (steps_of s p) 0 e)
 
 -- the head that was made is the one that the session names
 pub record Headed (s : List ℕ) (h : Head) : Type 0 where
@@ -118,7 +118,7 @@ module _ (s : List ℕ) where
 
   -- a session has room for the cells
   pub session_cells_room : {n : ℕ} → session_size ≤ length s → n ≤ cells_most → 2 * n ≤ length (take (places_at - session_cells_at) (drop session_cells_at s))
-  session_cells_room r l = simp (length_take, length_drop) (omega arith)
+  session_cells_room r l = simp (length-take, length-drop) (omega arith)
 
   module _ {h : Head} {b n : ℕ} (k : Headed s h) (e : b ≡ first_bad h (take (places_at - session_cells_at) (drop session_cells_at s))) (c : n ≡ cell_count h) where
     -- a bad cell makes the table bad,
@@ -135,7 +135,7 @@ module _ (s : List ℕ) where
     table_rest d =
         let e' : b ≡ first_bad (head_of s) (cells_of s) = rw k.same at e in
         let c' : n ≡ cell_count (head_of s) = rw k.same at c in
-        rw (k.good, ← e', ← c', eq_eqb b n d)
+        rw (k.good, ← e', ← c', eq-eqb b n d)
 
   -- the head of a good table is within the limits
   pub table_head : good_table s ≡ true → HeadIn (head_of s)
@@ -157,7 +157,7 @@ module _ (s t : List ℕ) where
     -- and else there is room,
     pub room_known : (session_size ≤ length s) × (tallies_size ≤ length t)
     unfolding room_rules
-    room_known = let a = (fine_when (room_rules s t)).0 (checked_fine _ e) in (ltb_false _ _ a.0, ltb_false _ _ a.1.0)
+    room_known = let a = (fine_when (room_rules s t)).0 (checked_fine _ e) in (ltb-false _ _ a.0, ltb-false _ _ a.1.0)
 
     -- a session that is not well-formed is damaged,
     pub form_damaged : well_formed s t ≡ false → checked (ruling (form_rules s t)) ≡ Refused Damaged

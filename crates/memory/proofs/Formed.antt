@@ -6,9 +6,9 @@ use mathlib.Core.List.{List, [], ◌∷◌, ◌++◌}
 use mathlib.Core.Bool.{Bool, true, false, not, ◌&&◌, ◌||◌}
 use native.Mathlib.Omega.{arith}
 use lib.Dec.{leb}
-use lib.ListN.{length, get_or, drop, length_append, length_drop}
-use lib.Seq.{length_take_le}
-use borrow.Author.Tests.{eqb_true, leb_true, le_leb, not_true, not_false}
+use lib.ListN.{length, get_or, drop, length-append, length-drop}
+use lib.Seq.{length-take-le}
+use borrow.Author.Tests.{eqb-true, leb-true, le-leb, not-true, not-false}
 use Rattle.shapes.specs.Keep.{every}
 use Rattle.shapes.proofs.First.{first_holds, first_before, all_from, all_at}
 use Rattle.shapes.proofs.Tests.{and_true}
@@ -23,7 +23,7 @@ use Rattle.memory.specs.Form.{good_table, zeros_after, good_place, tally_most, g
 
 -- the cells of a session are as many bytes as they have room
 cells_length : (s : List ℕ) → session_size ≤ length s → length (cells_of s) ≡ cells_room
-cells_length s room = length_take_le cells_room (drop session_cells_at s) (omega (arith, length_drop session_cells_at s))
+cells_length s room = length-take-le cells_room (drop session_cells_at s) (omega (arith, length-drop session_cells_at s))
 
 -- so there is room for those of its head
 cells_fit : (s : List ℕ) → session_size ≤ length s → HeadIn (head_of s) → 2 * cell_count (head_of s) ≤ length (cells_of s)
@@ -37,7 +37,7 @@ table_good s room e =
     let a = and_true _ _ e in
     let b = and_true _ _ a.1 in
     let h = head_in_law (head_of s) a.0 in
-    record { head = h; room = cells_fit s room h; sound = eqb_true _ _ b.0 }
+    record { head = h; room = cells_fit s room h; sound = eqb-true _ _ b.0 }
 
 -- the form's three parts
 form_parts : (s t : List ℕ) → well_formed s t ≡ true
@@ -62,7 +62,7 @@ formed_place s t k = all_at (good_place s) places_most (formed_places s t k)
 -- .. and no tally is above its most
 pub formed_tally : (s t : List ℕ) → Formed s t → (f : ℕ) → f < tallies_size → get_or t f 0 ≤ tally_most s f
 unfolding good_tallies
-formed_tally s t k f l = leb_true _ _ (all_at (λ g. leb (get_or t g 0) (tally_most s g)) tallies_size (form_parts s t k.form).2 f l)
+formed_tally s t k f l = leb-true _ _ (all_at (λ g. leb (get_or t g 0) (tally_most s g)) tallies_size (form_parts s t k.form).2 f l)
 
 -- three tests that hold hold together
 all_three : {a b c : Bool} → a ≡ true → b ≡ true → c ≡ true → a && (b && c) ≡ true
@@ -76,13 +76,13 @@ formed_from s t room tallies table places low =
     record {
       session_room = room;
       tallies_room = tallies;
-      form = all_three table (all_from (good_place s) places_most places) (all_from (λ f. leb (get_or t f 0) (tally_most s f)) tallies_size (λ f l. le_leb _ _ (low f l)));
+      form = all_three table (all_from (good_place s) places_most places) (all_from (λ f. leb (get_or t f 0) (tally_most s f)) tallies_size (λ f l. le-leb _ _ (low f l)));
     }
 
 -- a good place has at most 64 steps
 pub place_few : (s : List ℕ) (p : ℕ) → good_place s p ≡ true → steps_of s p ≤ steps_most
 unfolding good_place
-place_few s p good = leb_true _ _ (and_true _ _ good).0
+place_few s p good = leb-true _ _ (and_true _ _ good).0
 
 -- a good place that is held holds a case that can be run
 pub place_good : (s : List ℕ) (p : ℕ) → good_place s p ≡ true → is_held s p ≡ true → good_case (head_of s) (case_of s p).inputs (case_of s p).outputs ≡ true
@@ -123,7 +123,7 @@ cases_good s t f = held_good s places_most (formed_place s t f)
 -- the count of the cases held below the next place
 held_count : (s : List ℕ) (n : ℕ) → length (held_to s (suc n)) ≡ length (held_to s n) + length (cases_at s n)
 unfolding held_to
-held_count s n = length_append (held_to s n) _
+held_count s n = length-append (held_to s n) _
 
 -- at most as many are held as there are places
 pub cases_few : (s : List ℕ) (n : ℕ) → length (held_to s n) ≤ n
@@ -151,10 +151,10 @@ held_all s (suc n) each =
 -- the lowest free place is free where there is one
 pub free_low : (s : List ℕ) → free_place s < places_most → is_held s (free_place s) ≡ false
 unfolding free_place
-free_low s l = not_true _ (first_holds (λ p. not (is_held s p)) 0 places_most (omega arith))
+free_low s l = not-true _ (first_holds (λ p. not (is_held s p)) 0 places_most (omega arith))
 
 -- where there is none every place is held
 pub free_none : (s : List ℕ) → places_most ≤ free_place s → length (cases s) ≡ places_most
 unfolding free_place cases
 free_none s l =
-    held_all s places_most (λ p k. not_false _ (first_before (λ p. not (is_held s p)) 0 places_most p (omega arith) (omega arith)))
+    held_all s places_most (λ p k. not-false _ (first_before (λ p. not (is_held s p)) 0 places_most p (omega arith) (omega arith)))

@@ -6,8 +6,8 @@ use mathlib.Core.List.{List, ◌∷◌, ◌++◌}
 use mathlib.Core.Bool.{Bool, true, false, cond, not}
 use native.Mathlib.Omega.{arith}
 use lib.Dec.{eqb, ltb}
-use lib.ListN.{length, get_or, length_append}
-use borrow.Author.Tests.{eqb_true, eqb_false, ne_eqb, ltb_true, ltb_false}
+use lib.ListN.{length, get_or, length-append}
+use borrow.Author.Tests.{eqb-true, eqb-false, ne_eqb, ltb-true, ltb-false}
 use Rattle.shapes.specs.Keep.{bit, count}
 use Rattle.shapes.proofs.Keep.{count_among}
 use Rattle.shapes.proofs.Tests.{and_true}
@@ -32,7 +32,7 @@ pub record OneMore (c : Case) (few many : List Case) : Type 0 where
 
 -- is one longer,
 pub length_more : {c : Case} {few many : List Case} → OneMore c few many → length many ≡ length few + 1
-length_more o = rw (o.with_it, o.without, length_append, length_append) (omega arith)
+length_more o = rw (o.with_it, o.without, length-append, length-append) (omega arith)
 
 -- and one more counts by whether the test holds for it
 pub count_more : {c : Case} {few many : List Case} (p : Case → Bool) → OneMore c few many → count p many ≡ bit (p c) + count p few
@@ -49,7 +49,7 @@ good_fills h c e = let l = (case_in h c.inputs c.outputs e).some_steps in rw (ne
 -- a place that can be withdrawn or amended is one of the 64, and holds a case
 pub slot_inside : (s : List ℕ) (p : ℕ) → is_slot s p ≡ true → p < places_most
 unfolding is_slot
-slot_inside s p e = ltb_true p places_most (and_true _ _ e).0
+slot_inside s p e = ltb-true p places_most (and_true _ _ e).0
 
 pub slot_held : (s : List ℕ) (p : ℕ) → is_slot s p ≡ true → is_held s p ≡ true
 unfolding is_slot
@@ -115,21 +115,21 @@ place_keeps s t k p l c fits good t' same used unused =
     room = k.session_room
 
     place : (q : ℕ) → q < places_most → (b : Bool) → eqb q p ≡ b → good_place (placed s p c) q ≡ true
-    place q m true e = rw (eqb_true q p e) good
-    place q m false e = place_elsewhere s room p l c fits q m (eqb_false q p e) ∙ formed_place s t k q m
+    place q m true e = rw (eqb-true q p e) good
+    place q m false e = place_elsewhere s room p l c fits q m (eqb-false q p e) ∙ formed_place s t k q m
 
     tally : (f : ℕ) → f < tallies_size → (b : Bool) → ltb f (numbers (head_of s)) ≡ b
         → get_or t f 0 ≤ cond (ltb f (numbers (head_of s))) (length (cases s)) 0 → get_or t' f 0 ≤ cond b (length (cases (placed s p c))) 0
-    tally f m true e o = used f (ltb_true f (numbers (head_of s)) e) (omega (arith, k.tallies_room)) (rw e at o)
-    tally f m false e o = rw (unused f (ltb_false f (numbers (head_of s)) e)) (rw e at o)
+    tally f m true e o = used f (ltb-true f (numbers (head_of s)) e) (omega (arith, k.tallies_room)) (rw e at o)
+    tally f m false e o = rw (unused f (ltb-false f (numbers (head_of s)) e)) (rw e at o)
 
 -- fewer cases than places leave a place free
 pub free_left : (s : List ℕ) → length (cases s) < places_most → free_place s < places_most
 free_left s l = go (ltb (free_place s) places_most) refl
   where
     go : (b : Bool) → ltb (free_place s) places_most ≡ b → free_place s < places_most
-    go true e = ltb_true (free_place s) places_most e
-    go false e = absurd (omega (arith, free_none s (ltb_false (free_place s) places_most e)))
+    go true e = ltb-true (free_place s) places_most e
+    go false e = absurd (omega (arith, free_none s (ltb-false (free_place s) places_most e)))
 
 -- so has the table of a session that is well-formed
 pub formed_numbers : (s t : List ℕ) → Formed s t → numbers (head_of s) ≤ tallies_size

@@ -5,7 +5,7 @@ use Prim.Native.Nat.{ℕ, ◌+◌, ◌-◌, ◌≤◌, ◌<◌}
 use mathlib.Core.Path.{◌≡◌, sym, ap, ◌∙◌}
 use mathlib.Core.Bool.{true, false, Bool, not}
 use mathlib.Core.List.{List, ◌++◌}
-use borrow.Author.Tests.{not_true, not_false, lt_ltb, le_ltb}
+use borrow.Author.Tests.{not-true, not-false, lt-ltb, le-ltb}
 use native.Mathlib.Omega.{arith}
 use lib.ListN.{length, take, drop}
 use Rattle.shapes.specs.Refusals.{Ruling, fine, refused, ruling, Rule}
@@ -43,12 +43,12 @@ module _ (s t : List ℕ) where
   rules_formed e =
       let j = ruling_joined (room_rules s t) _ e in
       let room = room_known s t (ap checked j.0) in
-      record { session_room = room.0; tallies_room = room.1; form = not_false _ ((fine_when _).0 j.1).0 }
+      record { session_room = room.0; tallies_room = room.1; form = not-false _ ((fine_when _).0 j.1).0 }
 
   -- and none refuses one that is long enough,
   pub room_rules_law : session_size ≤ length s → tallies_size ≤ length t → ruling (room_rules s t) ≡ fine
   unfolding room_rules ruling
-  room_rules_law a b = rw (le_ltb (length s) session_size a, le_ltb (length t) tallies_size b)
+  room_rules_law a b = rw (le-ltb (length s) session_size a, le-ltb (length t) tallies_size b)
 
   -- and well-formed;
   pub formed_rules : Formed s t → ruling (form_rules s t) ≡ fine
@@ -60,7 +60,7 @@ module _ (s t : List ℕ) where
   pub rules_slot : (p : ℕ) → ruling (slot_rules s t p) ≡ fine → Formed s t × (is_slot s p ≡ true)
   unfolding slot_rules
   rules_slot p e =
-      let j = ruling_joined (form_rules s t) _ e in (rules_formed j.0, not_false _ ((fine_when _).0 j.1).0)
+      let j = ruling_joined (form_rules s t) _ e in (rules_formed j.0, not-false _ ((fine_when _).0 j.1).0)
 
 -- the table of a session, with the head read from it, was tested
 pub session_table : (s : List ℕ) {h : Head} → h ≡ head_of s → session_size ≤ length s → good_table s ≡ true → TableIn h (cells_of s)
@@ -80,11 +80,11 @@ case_read s here =
 module _ (s : List ℕ) (p : ℕ) {here : Place} (e : here ≡ read_place s p) where
   -- a place that was read is held where its length byte is not 0,
   pub held_read : (here.steps ≡ 0 → ⊥) → is_held s p ≡ true
-  held_read z = not_false _ (held_here s p e z)
+  held_read z = not-false _ (held_here s p e z)
 
   -- and free where it is;
   pub free_read : here.steps ≡ 0 → is_held s p ≡ false
-  free_read z = not_true _ (free_here s p e z)
+  free_read z = not-true _ (free_here s p e z)
 
   -- it stands where it does, and a good one is short;
   pub place_within : good_place s p ≡ true → (here.at ≡ place_at p) × ((here.steps ≡ steps_of s p) × (here.steps ≤ steps_most))
@@ -143,9 +143,9 @@ module _ (s : List ℕ) (p : ℕ) where
   -- a place over 63 holds no case,
   pub slot_past : places_most ≤ p → not (is_slot s p) ≡ true
   unfolding is_slot
-  slot_past l = rw (le_ltb _ _ l)
+  slot_past l = rw (le-ltb _ _ l)
 
   -- and below that it is as its length byte says
   pub slot_here : {b : Bool} → p < places_most → not (is_held s p) ≡ b → not (is_slot s p) ≡ b
   unfolding is_slot
-  slot_here l h = rw (lt_ltb _ _ l) h
+  slot_here l h = rw (lt-ltb _ _ l) h

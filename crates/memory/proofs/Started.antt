@@ -3,12 +3,12 @@ use Prim.Native.Nat.{ℕ, zero, suc, ◌+◌, ◌-◌, ◌*◌, ◌≤◌, ◌<�
 use mathlib.Core.Path.{◌≡◌, refl, sym, subst, ◌∙◌}
 use mathlib.Core.List.{List, []}
 use mathlib.Core.Bool.{true, false, ◌&&◌}
-use native.Mathlib.Nat.{zero_add, add_assoc}
+use native.Mathlib.Nat.{zero-add, add_assoc}
 use native.Mathlib.Omega.{arith}
 use lib.Dec.{eqb}
-use lib.ListN.{length, get_or, get_or_eq_default}
-use lib.Seq.{get_or_take, get_or_drop}
-use borrow.Author.Tests.{eq_eqb}
+use lib.ListN.{length, get_or, get_or-eq_default}
+use lib.Seq.{get_or-take, get_or-drop}
+use borrow.Author.Tests.{eq-eqb}
 use Rattle.shapes.specs.First.{zeros}
 use Rattle.shapes.proofs.First.{all_from}
 use Rattle.shapes.proofs.Edit.{edit_in, length_edit}
@@ -37,11 +37,11 @@ module _ (s file : List ℕ) (room : session_size ≤ length s) where
   -- after a start each byte is the file's after its length field,
   pub started_byte : (i : ℕ) → i < session_size → get_or (started s file) i 0 ≡ get_or file (rest_at + i) 0
   unfolding started
-  started_byte i l = rw zero_add at (edit_in (λ i old. get_or file (rest_at + i) 0) 0 session_size s i l (omega arith))
+  started_byte i l = rw zero-add at (edit_in (λ i old. get_or file (rest_at + i) 0) 0 session_size s i l (omega arith))
 
   -- 0 past its end
   started_zero : (i : ℕ) → i < session_size → length file ≤ rest_at + i → get_or (started s file) i 0 ≡ 0
-  started_zero i l e = started_byte i l ∙ get_or_eq_default file 0 e
+  started_zero i l e = started_byte i l ∙ get_or-eq_default file 0 e
 
   -- so with no bytes past the cells every place is free,
   pub started_free : length file ≤ places_at + rest_at → (p : ℕ) → p < places_most → steps_of (started s file) p ≡ 0
@@ -84,7 +84,7 @@ module _ (s file : List ℕ) (h : Head) (room : session_size ≤ length s) (read
           let f = cells_few h (table_known file h read).0.head in
           let m : c < cells_room = omega arith in
           let n : session_cells_at + c < session_size = omega arith in
-          rw (get_or_take, get_or_drop session_cells_at (started s file), get_or_drop, started_byte s file room (session_cells_at + c) n, ← add_assoc rest_at session_cells_at c)
+          rw (get_or-take, get_or-drop session_cells_at (started s file), get_or-drop, started_byte s file room (session_cells_at + c) n, ← add_assoc rest_at session_cells_at c)
 
   -- which is good, with zeros after
   started_good : good_table (started s file) ≡ true
@@ -96,7 +96,7 @@ module _ (s file : List ℕ) (h : Head) (room : session_size ≤ length s) (read
       && zeros (started s file) (session_cells_at + 2 * cell_count g) (cells_room - 2 * cell_count g)))
       ≡ true)
       (sym started_table.0)
-      (rw (head_good h known.0.head, eq_eqb _ _ sound) (all_from _ _ after))
+      (rw (head_good h known.0.head, eq-eqb _ _ sound) (all_from _ _ after))
     where
       known : (TableIn h (cells_in file)) × (length file ≡ table_bytes h)
       known = table_known file h read
@@ -112,7 +112,7 @@ module _ (s file : List ℕ) (h : Head) (room : session_size ≤ length s) (read
 -- after a start every tally is 0,
 pub cleared_zero : (t : List ℕ) → tallies_size ≤ length t → (f : ℕ) → f < tallies_size → get_or (cleared t) f 0 ≡ 0
 unfolding cleared
-cleared_zero t room f l = rw zero_add at (edit_in (λ f old. 0) 0 tallies_size t f l (omega arith))
+cleared_zero t room f l = rw zero-add at (edit_in (λ f old. 0) 0 tallies_size t f l (omega arith))
 
 -- and the session is well-formed
 pub start_keeps : (s t file : List ℕ) (h : Head) → session_size ≤ length s → tallies_size ≤ length t → table_read file ≡ Table h

@@ -3,14 +3,14 @@
 -- Assumes nothing.
 use Prim.Native.Nat.{ℕ, zero, suc, ◌+◌, ◌-◌, ◌*◌, ◌≤◌, ◌<◌}
 use mathlib.Core.Path.{◌≡◌, refl, sym, ap, ◌∙◌}
-use mathlib.Core.List.{List, [], ◌++◌, append_assoc, append_nil}
+use mathlib.Core.List.{List, [], ◌++◌, append_assoc, append-nil}
 use mathlib.Core.Bool.{Bool, true, false, not, ◌&&◌, ◌||◌}
-use native.Mathlib.Nat.{add_zero, add_suc}
+use native.Mathlib.Nat.{add-zero, add-suc}
 use native.Mathlib.Omega.{arith}
 use lib.Dec.{eqb, ltb, leb}
-use lib.ListN.{length, get_or, take, drop, length_drop, get_or_eq_default}
-use lib.Seq.{length_take_le, get_or_take, get_or_drop, ext_get_or}
-use borrow.Author.Tests.{eq_eqb, ne_eqb, lt_ltb, le_ltb, le_leb, ltb_true, ltb_false, leb_true}
+use lib.ListN.{length, get_or, take, drop, length-drop, get_or-eq_default}
+use lib.Seq.{length-take-le, get_or-take, get_or-drop, ext_get_or}
+use borrow.Author.Tests.{eq-eqb, ne_eqb, lt-ltb, le-ltb, le-leb, ltb-true, ltb-false, leb-true}
 use Rattle.shapes.specs.First.{zeros}
 use Rattle.shapes.proofs.First.{all_from, all_same}
 use Rattle.shapes.proofs.Edit.{length_edit, edit_in, edit_out_below, edit_out_above}
@@ -33,17 +33,17 @@ part_is : (l v : List ℕ) (at n : ℕ) → at + n ≤ length l → length v ≡
 part_is l v at n fit long each = ext_get_or 0 (take n (drop at l)) v (size ∙ sym long) (λ i h. same i (rw size at h))
   where
     size : length (take n (drop at l)) ≡ n
-    size = length_take_le n (drop at l) (omega (arith, length_drop at l))
+    size = length-take-le n (drop at l) (omega (arith, length-drop at l))
 
     same : (i : ℕ) → i < n → get_or (take n (drop at l)) i 0 ≡ get_or v i 0
-    same i h = get_or_take n (drop at l) i 0 h ∙ get_or_drop at l i 0 ∙ each i h
+    same i h = get_or-take n (drop at l) i 0 h ∙ get_or-drop at l i 0 ∙ each i h
 
 -- two lists that agree in a part have the same part ..
 part_same : (l m : List ℕ) (at n : ℕ) → at + n ≤ length l → length m ≡ length l → ((i : ℕ) → i < n → get_or m (at + i) 0 ≡ get_or l (at + i) 0)
     → take n (drop at m) ≡ take n (drop at l)
 part_same l m at n fit long each =
-    part_is m (take n (drop at l)) at n (omega arith) (length_take_le n (drop at l) (omega (arith, length_drop at l)))
-    (λ i h. each i h ∙ sym (get_or_take n (drop at l) i 0 h ∙ get_or_drop at l i 0))
+    part_is m (take n (drop at l)) at n (omega arith) (length-take-le n (drop at l) (omega (arith, length-drop at l)))
+    (λ i h. each i h ∙ sym (get_or-take n (drop at l) i 0 h ∙ get_or-drop at l i 0))
 
 -- .. and zeros there both, or neither
 zeros_same : (l m : List ℕ) (at n : ℕ) → ((i : ℕ) → i < n → get_or m (at + i) 0 ≡ get_or l (at + i) 0) → zeros m at n ≡ zeros l at n
@@ -54,7 +54,7 @@ zeros_same l m at n each =
 -- a part of zeros
 zeros_from : (l : List ℕ) (at n : ℕ) → ((i : ℕ) → i < n → get_or l (at + i) 0 ≡ 0) → zeros l at n ≡ true
 unfolding zeros
-zeros_from l at n each = all_from (λ i. eqb (get_or l (at + i) 0) 0) n (λ i h. eq_eqb (get_or l (at + i) 0) 0 (each i h))
+zeros_from l at n each = all_from (λ i. eqb (get_or l (at + i) 0) 0) n (λ i h. eq-eqb (get_or l (at + i) 0) 0 (each i h))
 
 -- the bytes of a place that holds a case: its length, ..
 byte_length : (c : Case) → place_byte c 0 ≡ length c.inputs
@@ -66,14 +66,14 @@ pub byte_input : (c : Case) (i : ℕ) → i < steps_most → place_byte c (1 + i
 unfolding place_byte
 byte_input c i h =
     let e : 1 + i - 1 ≡ i = omega arith in
-    rw (ne_eqb (1 + i) 0 (λ z. omega arith), lt_ltb (1 + i) (1 + steps_most) (omega arith), e)
+    rw (ne_eqb (1 + i) 0 (λ z. omega arith), lt-ltb (1 + i) (1 + steps_most) (omega arith), e)
 
 -- .. its outputs
 pub byte_output : (c : Case) (i : ℕ) → place_byte c (1 + steps_most + i) ≡ get_or c.outputs i 0
 unfolding place_byte
 byte_output c i =
     let e : 1 + steps_most + i - (1 + steps_most) ≡ i = omega arith in
-    rw (ne_eqb (1 + steps_most + i) 0 (λ z. omega arith), le_ltb (1 + steps_most + i) (1 + steps_most) (omega arith), e)
+    rw (ne_eqb (1 + steps_most + i) 0 (λ z. omega arith), le-ltb (1 + steps_most + i) (1 + steps_most) (omega arith), e)
 
 -- what stands before the place stays, ..
 byte_below : (s : List ℕ) (p : ℕ) (c : Case) (j : ℕ) → j < place_at p → get_or (placed s p c) j 0 ≡ get_or s j 0
@@ -91,8 +91,8 @@ byte_elsewhere : (s : List ℕ) (p : ℕ) (c : Case) (q : ℕ) → (q ≡ p → 
 byte_elsewhere s p c q other j low high = go (ltb q p) refl
   where
     go : (b : Bool) → ltb q p ≡ b → get_or (placed s p c) j 0 ≡ get_or s j 0
-    go true e = let l = ltb_true q p e in byte_below s p c j (omega arith)
-    go false e = let l = ltb_false q p e in byte_above s p c j (omega arith)
+    go true e = let l = ltb-true q p e in byte_below s p c j (omega arith)
+    go false e = let l = ltb-false q p e in byte_above s p c j (omega arith)
 
 -- the place itself has the case's bytes
 byte_placed : (s : List ℕ) → session_size ≤ length s → (p : ℕ) → p < places_most → (c : Case) (i j : ℕ) → i < place_size → j ≡ place_at p + i
@@ -156,7 +156,7 @@ module _ (s t : List ℕ) (room : session_size ≤ length s) (long : length t �
     where
       go : (b : Bool) → leb (steps_of s q) steps_most ≡ b → good_place t q ≡ good_place s q
       go true e =
-          let c = same_case (leb_true _ _ e) in
+          let c = same_case (leb-true _ _ e) in
           λ i. leb (same_steps i) steps_most && (same_zeros i && (not (not (eqb (same_steps i) 0)) || good_case (head i) (c i).inputs (c i).outputs))
       go false e = rw (same_steps, e)
 
@@ -231,19 +231,19 @@ module _ (s : List ℕ) (room : session_size ≤ length s) (p : ℕ) (inside : p
       ins : zeros (placed s p c) (place_at p + 1 + length c.inputs) (steps_most - length c.inputs) ≡ true
       ins =
           zeros_from (placed s p c) (place_at p + 1 + length c.inputs) (steps_most - length c.inputs)
-          (λ i h. input_placed (length c.inputs + i) _ (omega arith) (omega arith) ∙ get_or_eq_default c.inputs 0 (omega arith))
+          (λ i h. input_placed (length c.inputs + i) _ (omega arith) (omega arith) ∙ get_or-eq_default c.inputs 0 (omega arith))
 
       outs : zeros (placed s p c) (place_at p + 1 + steps_most + length c.inputs) (steps_most - length c.inputs) ≡ true
       outs =
           zeros_from (placed s p c) (place_at p + 1 + steps_most + length c.inputs) (steps_most - length c.inputs)
-          (λ i h. output_placed (length c.inputs + i) _ (omega arith) (omega arith) ∙ get_or_eq_default c.outputs 0 (omega (arith, fits.even)))
+          (λ i h. output_placed (length c.inputs + i) _ (omega arith) (omega arith) ∙ get_or-eq_default c.outputs 0 (omega (arith, fits.even)))
 
   -- the place is good if it is then free, or the case can be run
   good_placed : (not (not (eqb (length c.inputs) 0)) || good_case (head_of s) c.inputs c.outputs) ≡ true → good_place (placed s p c) p ≡ true
   unfolding good_place
   good_placed e =
       (λ i. leb (steps_placed i) steps_most && (zeros_placed i && (not (held_placed i) || good_case (head_placed i) (case_placed i).inputs (case_placed i).outputs)))
-      ∙ rw (le_leb (length c.inputs) steps_most fits.few) e
+      ∙ rw (le-leb (length c.inputs) steps_most fits.few) e
 
   -- with a case that can be run it is good
   pub place_stored : good_case (head_of s) c.inputs c.outputs ≡ true → good_place (placed s p c) p ≡ true
@@ -269,8 +269,8 @@ held_from s p (suc n) = held_from s p n ++ cases_at s (p + n)
 -- the cases below a place, and those from it on
 held_split : (s : List ℕ) (p n : ℕ) → held_to s (p + n) ≡ held_to s p ++ held_from s p n
 unfolding held_to held_from
-held_split s p zero = rw (add_zero, append_nil)
-held_split s p (suc n) = rw (add_suc p n, held_split s p n, append_assoc)
+held_split s p zero = rw (add-zero, append-nil)
+held_split s p (suc n) = rw (add-suc p n, held_split s p n, append_assoc)
 
 -- the cases below a place, the one in it, those above
 held_around : (s : List ℕ) (p n : ℕ) → held_to s (suc p + n) ≡ held_to s p ++ (cases_at s p ++ held_from s (suc p) n)

@@ -2,7 +2,7 @@
 use Prim.Native.Nat.{ℕ, ◌+◌, ◌-◌}
 use mathlib.Core.Path.{◌≡◌, sym}
 use mathlib.Core.List.{List}
-use native.Mathlib.Nat.{add_zero}
+use native.Mathlib.Nat.{add-zero}
 use native.Mathlib.Omega.{arith}
 use lib.ListN.{length, set}
 use Rattle.shapes.specs.Edit.{edit}
@@ -17,7 +17,7 @@ use Rattle.memory.proofs.Stored.{byte_input, byte_output}
 -- the first byte of a place is the count of the inputs
 count_stored : (c : Case) (at : ℕ) (l : List ℕ) → set l at (length c.inputs) ≡ edit (λ i old. place_byte c i) at 1 l
 unfolding edit place_byte
-count_stored c at l = rw add_zero
+count_stored c at l = rw add-zero
 
 -- the count stored, then the inputs, then the outputs, is a whole place stored
 case_stored : (c : Case) (at : ℕ) (l : List ℕ)

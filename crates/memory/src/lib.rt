@@ -1,5 +1,6 @@
 // The session's memory (document 01, "Session memory"): bytes at fixed offsets in lent memory with the tallies beside it, what makes them
 // well-formed, and a case stored and read back.
+#![tactic(auto)]
 
 // Where things stand in the session's bytes.
 pub mod layout;

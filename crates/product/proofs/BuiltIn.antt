@@ -6,7 +6,7 @@ use mathlib.Core.Bool.{Bool, true, false}
 use mathlib.Core.List.{List}
 use borrow.Author.Rules.{rules}
 use native.Mathlib.Omega.{arith}
-use borrow.Author.Tests.{lt_ltb, le_ltb, ltb_true, ltb_false}
+use borrow.Author.Tests.{lt-ltb, le-ltb, ltb-true, ltb-false}
 use lib.Dec.{ltb}
 use lib.ListN.{length, take}
 use Rattle.shapes.specs.First.{first}
@@ -54,13 +54,13 @@ module _ (m : Product) (out : List ℕ) where
   -- where there is less room than the file has bytes, SHORT carries these and nothing is written
   pub built_in_short : length out < table_bytes (product_head m) → written m out ≡ wrote (Refused (Short (table_bytes (product_head m)))) out
   unfolding written ruling
-  built_in_short l = rw (lt_ltb _ _ l)
+  built_in_short l = rw (lt-ltb _ _ l)
 
   -- else the file is written, and its bytes answered
   pub built_in_written : table_bytes (product_head m) ≤ length out
       → written m out ≡ wrote (Done (table_bytes (product_head m))) (filled out 0 (table_file (product_head m) (product_cells m)))
   unfolding written ruling
-  built_in_written l = rw (le_ltb _ _ l)
+  built_in_written l = rw (le-ltb _ _ l)
 
   -- so an answered count of bytes is within what is left in the buffer
   pub built_in_fits : {r : Answer} {last : List ℕ} {n : ℕ} → wrote r last ≡ written m out → r ≡ Done n → n ≤ length last
@@ -68,10 +68,10 @@ module _ (m : Product) (out : List ℕ) where
     where
       go : (b : Bool) → ltb (length out) (table_bytes (product_head m)) ≡ b → n ≤ length last
       go true q =
-          let s = e ∙ built_in_short (ltb_true _ _ q) in
+          let s = e ∙ built_in_short (ltb-true _ _ q) in
           let z : ◌≡◌ {A = ℕ} 0 1 = cc in absurd (omega arith)
       go false q =
-          let room = ltb_false (length out) (table_bytes (product_head m)) q in
+          let room = ltb-false (length out) (table_bytes (product_head m)) q in
           let s = e ∙ built_in_written room in
           let bytes : n ≡ table_bytes (product_head m) = cc in
           let left : last ≡ filled out 0 (table_file (product_head m) (product_cells m)) = cc in

@@ -1,5 +1,7 @@
 // The two products' tables (document 01, "Product tables and numbers to check"), built in as constants, and a call for each that
 // writes it as a table file. None is a default.
+#![tactic(auto)]
+
 ghost use Rattle.std.specs.Prelude.{◌≡◌, ◌<◌, ◌≤◌, length};
 ghost use Rattle.shapes.specs.Edit.{filled};
 ghost use Rattle.machine.specs.Head.{HeadIn, cell_count};

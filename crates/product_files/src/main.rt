@@ -1,4 +1,6 @@
 // Writes the five-litre table file and then the eight-litre one to standard output, as raw bytes.
+#![tactic(auto)]
+
 use house::refusal::Answer;
 use product::{eight_litre, five_litre};
 

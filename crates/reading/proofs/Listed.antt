@@ -2,15 +2,15 @@
 -- call's answer from its checks. Assumes nothing.
 use Prim.Native.Nat.{ℕ, zero, suc, ◌+◌, ◌-◌, ◌≤◌, ◌<◌}
 use mathlib.Core.Path.{◌≡◌, refl, sym, ◌∙◌}
-use mathlib.Core.List.{List, [], ◌∷◌, ◌++◌, append_nil}
+use mathlib.Core.List.{List, [], ◌∷◌, ◌++◌, append-nil}
 use mathlib.Core.Bool.{Bool, true, false, not, ◌&&◌, ◌||◌}
 use mathlib.Core.Logic.{◌⊎◌, inl, inr}
-use borrow.Author.Tests.{lt_ltb, le_ltb, eq_eqb, ne_eqb}
-use native.Mathlib.Nat.{zero_add, add_zero, sub_zero, eq_or_lt_of_le}
-use native.Mathlib.Numerals.{add_one}
+use borrow.Author.Tests.{lt-ltb, le-ltb, eq-eqb, ne_eqb}
+use native.Mathlib.Nat.{zero-add, add-zero, sub-zero, eq-or-lt_of_le}
+use native.Mathlib.Numerals.{add-one}
 use native.Mathlib.Omega.{arith}
 use lib.Dec.{eqb}
-use lib.ListN.{length, get_or, set, length_append}
+use lib.ListN.{length, get_or, set, length-append}
 use mir.Val.{bool_byte}
 use Rattle.shapes.specs.First.{first}
 use Rattle.shapes.specs.Edit.{filled}
@@ -45,7 +45,7 @@ use Rattle.memory.proofs.Known.{case_read, parts_case}
 
 -- a number more that is kept counts as one, else as none
 pub keep_counted : (p : ℕ → Bool) (n m : ℕ) {r : Bool} → r ≡ p n → m ≡ length (keep_to p n) → m + bool_byte r ≡ length (keep_to p (n + 1))
-keep_counted p n m {r} e d = rw (keep_more p n, length_append, ← e, d) (go r)
+keep_counted p n m {r} e d = rw (keep_more p n, length-append, ← e, d) (go r)
   where
     go : (b : Bool) → length (keep_to p n) + bool_byte b ≡ length (keep_to p n) + length (keep_if b n)
     go true = refl
@@ -57,13 +57,13 @@ keep_here p n e f = let k : p n ≡ true = sym e ∙ f in rw (keep_more p n, k)
 
 -- one that is not changes nothing
 keep_past : (p : ℕ → Bool) (n : ℕ) {r : Bool} → r ≡ p n → r ≡ false → keep_to p (n + 1) ≡ keep_to p n
-keep_past p n e f = let k : p n ≡ false = sym e ∙ f in rw (keep_more p n, k, append_nil)
+keep_past p n e f = let k : p n ≡ false = sym e ∙ f in rw (keep_more p n, k, append-nil)
 
 -- below a number at most as many are kept
 pub keep_few : (p : ℕ → Bool) (n : ℕ) → length (keep_to p n) ≤ n
 unfolding keep_to
 keep_few p zero = omega arith
-keep_few p (suc n) = rw length_append (go (p n) (keep_few p n))
+keep_few p (suc n) = rw length-append (go (p n) (keep_few p n))
   where
     go : (b : Bool) → length (keep_to p n) ≤ n → length (keep_to p n) + length (keep_if b n) ≤ suc n
     go true h = omega arith
@@ -73,7 +73,7 @@ keep_few p (suc n) = rw length_append (go (p n) (keep_few p n))
 pub keep_grows : (p : ℕ → Bool) (n m : ℕ) → n < m → p n ≡ true → length (keep_to p n) < length (keep_to p m)
 unfolding keep_to
 keep_grows p n zero l e = absurd (omega arith)
-keep_grows p n (suc m) l e = rw length_append (go (λ h. keep_grows p n m h e) (eq_or_lt_of_le (low l)))
+keep_grows p n (suc m) l e = rw length-append (go (λ h. keep_grows p n m h e) (eq-or-lt_of_le (low l)))
   where
     low : n < suc m → n ≤ m
     low h = omega arith
@@ -103,8 +103,8 @@ module _ (p : ℕ → Bool) (old : List ℕ) where
     pub written_more : {r : Bool} {at' : ℕ} {out' : List ℕ} → r ≡ p n → r ≡ true → out' ≡ set out at n → at' ≡ at + 1 → WrittenTo p old (n + 1) out' at'
     written_more e f s a =
         record {
-          stored = rw (s, keep_here p n e f, ← filled_append old 0 (keep_to p n) (n ∷ []), filled_one, zero_add, k.stored, k.counted);
-          counted = rw (a, keep_here p n e f, length_append, k.counted);
+          stored = rw (s, keep_here p n e f, ← filled_append old 0 (keep_to p n) (n ∷ []), filled_one, zero-add, k.stored, k.counted);
+          counted = rw (a, keep_here p n e f, length-append, k.counted);
         }
 
     -- and so does a number that is not kept
@@ -142,7 +142,7 @@ some_append p (x ∷ l) r = rw (some_append p l r) (go (p x))
 -- two lists together count as much as each
 count_append : {A : Type 0} (p : A → Bool) (l r : List A) → count p (l ++ r) ≡ count p l + count p r
 unfolding count
-count_append p [] r = rw zero_add
+count_append p [] r = rw zero-add
 count_append p (x ∷ l) r = let e = count_append p l r in omega arith
 
 module _ (s : List ℕ) where
@@ -150,7 +150,7 @@ module _ (s : List ℕ) where
   pub some_past : (q : Case → Bool) (p : ℕ) {r : Bool} → r ≡ (is_held s p && q (case_of s p)) → r ≡ false → some q (held_to s p) ≡ false
       → some q (held_to s (p + 1)) ≡ false
   unfolding held_to some
-  some_past q p e f none = rw (add_one, some_append, none) (go (is_held s p) (sym e ∙ f))
+  some_past q p e f none = rw (add-one, some_append, none) (go (is_held s p) (sym e ∙ f))
     where
       go : (b : Bool) → (b && q (case_of s p)) ≡ false → some q (case_if b (case_of s p)) ≡ false
       go true h = rw h
@@ -160,7 +160,7 @@ module _ (s : List ℕ) where
   pub some_here : (q : Case → Bool) (n p : ℕ) → p < n → (is_held s p && q (case_of s p)) ≡ true → some q (held_to s n) ≡ true
   unfolding held_to some
   some_here q zero p l e = absurd (omega arith)
-  some_here q (suc n) p l e = rw some_append (go (λ h. some_here q n p h e) (eq_or_lt_of_le (low l)))
+  some_here q (suc n) p l e = rw some_append (go (λ h. some_here q n p h e) (eq-or-lt_of_le (low l)))
     where
       low : p < suc n → p ≤ n
       low h = omega arith
@@ -181,7 +181,7 @@ module _ (s : List ℕ) where
   pub tally_turn : (f p n x : ℕ) → n ≡ tally (head_of s) (cells_of s) (held_to s p) f → x ≡ tally (head_of s) (cells_of s) (cases_at s p) f
       → n + x ≡ tally (head_of s) (cells_of s) (held_to s (p + 1)) f
   unfolding held_to tally
-  tally_turn f p n x e d = rw (add_one, count_append, e, d)
+  tally_turn f p n x e d = rw (add-one, count_append, e, d)
 
 -- whether a tally is false
 abbrev pub false_at : List ℕ → List ℕ → ℕ → Bool
@@ -194,12 +194,12 @@ module _ (s t : List ℕ) (f : ℕ) {x : ℕ} (e : x ≡ tally (head_of s) (cell
 
   -- and not where that one is
   pub false_past : x ≡ get_or t f 0 → false_at s t f ≡ false
-  false_past d = rw (← e, eq_eqb (get_or t f 0) x (sym d))
+  false_past d = rw (← e, eq-eqb (get_or t f 0) x (sym d))
 
 -- the search for one begins so
 pub false_begins : (s t : List ℕ) {n : ℕ} → n ≡ numbers (head_of s) → first (false_at s t) 0 (n - 0) ≡ false_tally s t
 unfolding false_tally
-false_begins s t e = rw (sub_zero, e)
+false_begins s t e = rw (sub-zero, e)
 
 module _ (s : List ℕ) (p : ℕ) {here : Place} (e : here ≡ read_place s p) {h : Head} (same : h ≡ head_of s) where
   -- what is told of the two parts that were read is told of the case: whether it fails,
@@ -212,7 +212,7 @@ module _ (s : List ℕ) (p : ℕ) {here : Place} (e : here ≡ read_place s p) {
       → (bool_byte r ≡ tally (head_of s) (cells_of s) (cases_at s p) f) × (bool_byte r ≤ 1)
   unfolding tally count
   missed_told f d k =
-      let told : _ ≡ misses (head_of s) (cells_of s) f (case_of s p) = d ∙ rw (parts_case s p e, same) in rw (k, add_zero) (bit_told told)
+      let told : _ ≡ misses (head_of s) (cells_of s) f (case_of s p) = d ∙ rw (parts_case s p e, same) in rw (k, add-zero) (bit_told told)
 
 -- some case fails and something is listed: a fault is found
 pub verdict_found : (n : ℕ) → (n ≡ 0 → ⊥) → verdicts.Found ≡ verdict_by true n
@@ -236,14 +236,14 @@ module _ (s t : List ℕ) where
       -- one for which the buffer is too short says how many there are,
       pub list_short : length out < n → listed (listings.Refused (Short n)) out ≡ list_call s t out
       unfolding list_call list_rules ruling
-      list_short l = rw (ruling_join_fine (form_rules s t) _ (checked_fine _ fit), ← all, lt_ltb (length out) n l)
+      list_short l = rw (ruling_join_fine (form_rules s t) _ (checked_fine _ fit), ← all, lt-ltb (length out) n l)
 
       -- and else it writes them, with the verdict
       pub list_done : {b : Bool} {v : Verdict} {new : List ℕ} → n ≤ length out → new ≡ filled out 0 (list_of s t)
           → b ≡ some_fails (head_of s) (cells_of s) (cases s) → v ≡ verdict_by b n → listed (listings.Faults v n) new ≡ list_call s t out
       unfolding list_call list_rules ruling verdict_in
       list_done l w e d =
-          rw (ruling_join_fine (form_rules s t) _ (checked_fine _ fit), ← all, le_ltb (length out) n l, ← e, w, d, all, verdict_counted)
+          rw (ruling_join_fine (form_rules s t) _ (checked_fine _ fit), ← all, le-ltb (length out) n l, ← e, w, d, all, verdict_counted)
 
   -- an audit of a session that is refused is refused so,
   pub audit_refused : {r : Refusal} → checked (ruling (form_rules s t)) ≡ Refused r → audits.Refused r ≡ audit_call s t
@@ -254,9 +254,9 @@ module _ (s t : List ℕ) where
     -- a number below the count of all is one whose tally is false,
     pub audit_false : f < n → audits.False f ≡ audit_call s t
     unfolding audit_call
-    audit_false l = rw (checked_fine (ruling (form_rules s t)) fit, ← found, ← all, lt_ltb f n l)
+    audit_false l = rw (checked_fine (ruling (form_rules s t)) fit, ← found, ← all, lt-ltb f n l)
 
     -- and else all are true
     pub audit_true : n ≤ f → audits.True ≡ audit_call s t
     unfolding audit_call
-    audit_true l = rw (checked_fine (ruling (form_rules s t)) fit, ← found, ← all, le_ltb f n l)
+    audit_true l = rw (checked_fine (ruling (form_rules s t)) fit, ← found, ← all, le-ltb f n l)

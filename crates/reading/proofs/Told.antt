@@ -8,7 +8,7 @@ use mathlib.Core.Logic.{◌↔◌}
 use mathlib.Core.List.{List}
 use native.Mathlib.Omega.{arith}
 use lib.Dec.{ltb}
-use borrow.Author.Tests.{ltb_true, ltb_false, le_ltb, lt_ltb, eq_eqb, eqb_true, not_true, not_false}
+use borrow.Author.Tests.{ltb-true, ltb-false, le-ltb, lt-ltb, eq-eqb, eqb-true, not-true, not-false}
 use lib.ListN.{length, get_or}
 use Rattle.shapes.specs.Edit.{filled}
 use Rattle.shapes.specs.Refusals.{Ruling, fine, refused, ruling}
@@ -42,13 +42,13 @@ module _ (s t : List ℕ) where
   -- where none is found false all are true,
   none_false : numbers (head_of s) ≤ false_tally s t → TrueTallies s t
   unfolding false_tally
-  none_false l f m = eqb_true _ _ (not_false _ (first_before (false_at s t) 0 (numbers (head_of s)) f (omega arith) (omega arith)))
+  none_false l f m = eqb-true _ _ (not-false _ (first_before (false_at s t) 0 (numbers (head_of s)) f (omega arith) (omega arith)))
 
   -- and where all are true none is found,
   all_true : TrueTallies s t → numbers (head_of s) ≤ false_tally s t
   unfolding false_tally
   all_true now =
-      let e = first_none (false_at s t) 0 (numbers (head_of s)) (λ f low l. rw (now f (omega arith), eq_eqb _ _ refl)) in omega arith
+      let e = first_none (false_at s t) 0 (numbers (head_of s)) (λ f low l. rw (now f (omega arith), eq-eqb _ _ refl)) in omega arith
 
   -- "An audit answers whether every tally is true": true exactly if the session is long enough and well-formed, and every tally in use counts afresh
   pub audit_true_exactly : (audit_call s t ≡ Audited_type.TheVariants.True) ↔ (Formed s t × TrueTallies s t)
@@ -56,14 +56,14 @@ module _ (s t : List ℕ) where
   audit_true_exactly = (
     λ e.
         let a = audited_true (ruling (form_rules s t)) _ _ e in
-        (rules_formed s t a.0, none_false (ltb_false (false_tally s t) (numbers (head_of s)) a.1)),
-    λ k. rw (formed_rules s t k.0, le_ltb (false_tally s t) (numbers (head_of s)) (all_true k.1)),
+        (rules_formed s t a.0, none_false (ltb-false (false_tally s t) (numbers (head_of s)) a.1)),
+    λ k. rw (formed_rules s t k.0, le-ltb (false_tally s t) (numbers (head_of s)) (all_true k.1)),
   )
 
   -- each number below the one found is true,
   below_found : (f : ℕ) → f < false_tally s t → get_or t f 0 ≡ tally (head_of s) (cells_of s) (cases s) f
   unfolding false_tally
-  below_found f l = eqb_true _ _ (not_false _ (first_before (false_at s t) 0 (numbers (head_of s)) f (omega arith) l))
+  below_found f l = eqb-true _ _ (not-false _ (first_before (false_at s t) 0 (numbers (head_of s)) f (omega arith) l))
 
   -- a number that is found is the lowest that is false,
   found_lowest : false_tally s t < numbers (head_of s) → LowestFalse s t (false_tally s t)
@@ -71,7 +71,7 @@ module _ (s t : List ℕ) where
   found_lowest l =
       record {
         in_use = l;
-        untrue = λ e. true≢false (sym (eq_eqb _ _ e) ∙ not_true _ (first_holds (false_at s t) 0 (numbers (head_of s)) (omega arith)));
+        untrue = λ e. true≢false (sym (eq-eqb _ _ e) ∙ not-true _ (first_holds (false_at s t) 0 (numbers (head_of s)) (omega arith)));
         lower_true = below_found;
       }
 
@@ -81,12 +81,12 @@ module _ (s t : List ℕ) where
     where
       go : (a : Bool) → ltb (false_tally s t) f ≡ a → (b : Bool) → ltb f (false_tally s t) ≡ b → false_tally s t ≡ f
       go true ea b eb =
-          let l = ltb_true (false_tally s t) f ea in
+          let l = ltb-true (false_tally s t) f ea in
           let low = found_lowest (omega (arith, k.in_use)) in absurd (low.untrue (k.lower_true (false_tally s t) l))
-      go false ea true eb = absurd (k.untrue (below_found f (ltb_true f (false_tally s t) eb)))
+      go false ea true eb = absurd (k.untrue (below_found f (ltb-true f (false_tally s t) eb)))
       go false ea false eb =
-          let x = ltb_false (false_tally s t) f ea in
-          let y = ltb_false f (false_tally s t) eb in omega arith
+          let x = ltb-false (false_tally s t) f ea in
+          let y = ltb-false f (false_tally s t) eb in omega arith
 
   -- "else the lowest number that is false": f exactly if the session is long enough and well-formed and f is that number
   pub audit_false_exactly : (f : ℕ) → (audit_call s t ≡ Audited_type.TheVariants.False f) ↔ (Formed s t × LowestFalse s t f)
@@ -94,10 +94,10 @@ module _ (s t : List ℕ) where
   audit_false_exactly f = (
     λ e.
         let a = audited_false (ruling (form_rules s t)) _ _ f e in
-        (rules_formed s t a.0, rw a.1.1 at (found_lowest (ltb_true (false_tally s t) (numbers (head_of s)) a.1.0))),
+        (rules_formed s t a.0, rw a.1.1 at (found_lowest (ltb-true (false_tally s t) (numbers (head_of s)) a.1.0))),
     λ k.
         let e = lowest_found f k.1 in
-        rw (formed_rules s t k.0, e, lt_ltb f (numbers (head_of s)) k.1.in_use),
+        rw (formed_rules s t k.0, e, lt-ltb f (numbers (head_of s)) k.1.in_use),
   )
 
 module _ (s t : List ℕ) (k : Formed s t) where
@@ -105,7 +105,7 @@ module _ (s t : List ℕ) (k : Formed s t) where
   pub list_formed : (out : List ℕ) → length (list_of s t) ≤ length out
       → list_call s t out ≡ listed (Faults (verdict_in s t) (length (list_of s t))) (filled out 0 (list_of s t))
   unfolding list_call list_rules ruling
-  list_formed out room = rw (ruling_join_fine (form_rules s t) _ (formed_rules s t k), le_ltb (length out) (length (list_of s t)) room)
+  list_formed out room = rw (ruling_join_fine (form_rules s t) _ (formed_rules s t k), le-ltb (length out) (length (list_of s t)) room)
 
 -- where the tallies are true as well the verdict and the list are those by replay
 pub list_answers : (s t out : List ℕ) → Formed s t → TrueTallies s t → length (list (head_of s) (cells_of s) (cases s)) ≤ length out

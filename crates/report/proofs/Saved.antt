@@ -3,15 +3,15 @@
 -- Assumes nothing.
 use Prim.Native.Nat.{ℕ, zero, suc, ◌+◌, ◌-◌, ◌*◌, ◌≤◌, ◌<◌}
 use mathlib.Core.Path.{◌≡◌, refl, sym, ap, ◌∙◌}
-use mathlib.Core.List.{List, [], ◌∷◌, ◌++◌, append_nil}
+use mathlib.Core.List.{List, [], ◌∷◌, ◌++◌, append-nil}
 use mathlib.Core.Bool.{Bool, true, false, cond, not, ◌&&◌, ◌||◌}
 use mathlib.Core.Logic.{◌⊎◌, inl, inr}
-use native.Mathlib.Nat.{zero_add, eq_or_lt_of_le}
-use native.Mathlib.Numerals.{add_one}
+use native.Mathlib.Nat.{zero-add, eq-or-lt_of_le}
+use native.Mathlib.Numerals.{add-one}
 use native.Mathlib.Omega.{arith}
-use borrow.Author.Tests.{lt_ltb, le_ltb}
-use lib.ListN.{length, get_or, length_append, length_drop}
-use lib.Seq.{length_take_le}
+use borrow.Author.Tests.{lt-ltb, le-ltb}
+use lib.ListN.{length, get_or, length-append, length-drop}
+use lib.Seq.{length-take-le}
 use Rattle.shapes.specs.Edit.{edit, filled, place_after}
 use Rattle.shapes.specs.Keep.{bit, every}
 use Rattle.shapes.specs.Refusals.{Rule, when, fine, refused, ruling}
@@ -50,22 +50,22 @@ module _ (s : List ℕ) (p : ℕ) (room : session_size ≤ length s) (inside : p
   -- its case has as many inputs as its length byte says,
   inputs_long : length (case_of s p).inputs ≡ steps_of s p
   unfolding case_of
-  inputs_long = length_take_le _ _ (rw length_drop (omega arith))
+  inputs_long = length-take-le _ _ (rw length-drop (omega arith))
 
   -- and as many outputs,
   outputs_long : length (case_of s p).outputs ≡ steps_of s p
   unfolding case_of
-  outputs_long = length_take_le _ _ (rw length_drop (omega arith))
+  outputs_long = length-take-le _ _ (rw length-drop (omega arith))
 
   -- so it takes a byte and two for each step
   case_long : length (case_bytes (case_of s p)) ≡ 1 + 2 * steps_of s p
   unfolding case_bytes
-  case_long = rw (length_append, inputs_long, outputs_long) (omega arith)
+  case_long = rw (length-append, inputs_long, outputs_long) (omega arith)
 
 -- one case, or none, as bytes
 rest_one : (c : Case) → rest_of (case_if true c) ≡ case_bytes c
 unfolding rest_of
-rest_one c = append_nil (case_bytes c)
+rest_one c = append-nil (case_bytes c)
 
 rest_none : (c : Case) → rest_of (case_if false c) ≡ []
 unfolding rest_of
@@ -126,12 +126,12 @@ module _ (s : List ℕ) where
   -- no place below has more of them
   rest_grows : (p n : ℕ) → p ≤ n → length (rest_of (held_to s p)) ≤ length (rest_of (held_to s n))
   rest_grows p zero l = let e : p ≡ 0 = omega arith in rw e (omega arith)
-  rest_grows p (suc n) l = go (eq_or_lt_of_le l) (rest_grows p n)
+  rest_grows p (suc n) l = go (eq-or-lt_of_le l) (rest_grows p n)
     where
       go : (p ≡ suc n) ⊎ (p < suc n) → (p ≤ n → length (rest_of (held_to s p)) ≤ length (rest_of (held_to s n)))
           → length (rest_of (held_to s p)) ≤ length (rest_of (held_to s (suc n)))
       go (inl e) rest = rw e (omega arith)
-      go (inr k) rest = let r = rest (omega arith) in rw (rest_more n, length_append) (omega arith)
+      go (inr k) rest = let r = rest (omega arith) in rw (rest_more n, length-append) (omega arith)
 
   -- a loop over the places begins with no bytes,
   pub rest_begins : rest_of (held_to s 0) ≡ []
@@ -141,7 +141,7 @@ module _ (s : List ℕ) where
   -- counts those of a place more,
   pub rest_turn : (p at n : ℕ) → at ≡ rest_at + length (rest_of (held_to s p)) → n ≡ length (bytes_at s p)
       → at + n ≡ rest_at + length (rest_of (held_to s (p + 1)))
-  rest_turn p at n e k = rw (add_one, rest_more, length_append) (omega arith)
+  rest_turn p at n e k = rw (add-one, rest_more, length-append) (omega arith)
 
   -- has room for them where all have,
   pub rest_room : (p at : ℕ) (l out : List ℕ) → p < places_most → at ≡ rest_at + length (rest_of (held_to s p))
@@ -150,14 +150,14 @@ module _ (s : List ℕ) where
   unfolding cases
   rest_room p at l out k e el room =
       let g = rest_grows (suc p) places_most k in
-      let m = ap length (rest_more p) ∙ length_append (rest_of (held_to s p)) (bytes_at s p) in
+      let m = ap length (rest_more p) ∙ length-append (rest_of (held_to s p)) (bytes_at s p) in
       rw (el, length_filled) (omega arith)
 
   -- and writes them after those before
   pub rest_written : (p at : ℕ) (l m out : List ℕ) → at ≡ rest_at + length (rest_of (held_to s p)) → l ≡ filled out rest_at (rest_of (held_to s p))
       → m ≡ filled l at (bytes_at s p) → m ≡ filled out rest_at (rest_of (held_to s (p + 1)))
   rest_written p at l m out e el em =
-      rw (em, el, e, add_one, rest_more) (filled_append out rest_at (rest_of (held_to s p)) _)
+      rw (em, el, e, add-one, rest_more) (filled_append out rest_at (rest_of (held_to s p)) _)
 
 -- a record has three bytes at least,
 pub record_some : {n : ℕ} (cs : List Case) → n ≡ length (record_file cs) → rest_at ≤ n
@@ -208,7 +208,7 @@ module _ (s t : List ℕ) {x : Checked_type.Checked} (e : x ≡ checked (ruling 
     unfolding save_call save_rules
     save_short n out en l =
         let k : length out < length (record_file (cases s)) = omega arith in
-        rw (last_refuses (form_rules s t) (Short (length (record_file (cases s)))) form_rules_law (lt_ltb _ _ k), en)
+        rw (last_refuses (form_rules s t) (Short (length (record_file (cases s)))) form_rules_law (lt-ltb _ _ k), en)
 
     -- and one long enough holds it once its head and its cases are written
     pub save_written : (n : ℕ) (out one two : List ℕ) → n ≡ length (record_file (cases s)) → n ≤ length out
@@ -218,7 +218,7 @@ module _ (s t : List ℕ) {x : Checked_type.Checked} (e : x ≡ checked (ruling 
     save_written n out one two en l e1 e2 =
         let k : length (record_file (cases s)) ≤ length out = omega arith in
         rw (
-          last_passes (form_rules s t) (Short (length (record_file (cases s)))) form_rules_law (le_ltb _ _ k),
+          last_passes (form_rules s t) (Short (length (record_file (cases s)))) form_rules_law (le-ltb _ _ k),
           e2,
           e1,
           record_written n out (cases s) en,
@@ -228,13 +228,13 @@ module _ (s t : List ℕ) {x : Checked_type.Checked} (e : x ≡ checked (ruling 
     -- a buffer too short for 256 bytes is refused,
     pub candidates_short : (out : List ℕ) → length out < cells_most → wrote (Answer_type.TheVariants.Refused (Short 0)) out ≡ candidates_call s t out
     unfolding candidates_call bytes_rules
-    candidates_short out l = rw (last_refuses (form_rules s t) (Short 0) form_rules_law (lt_ltb _ _ l))
+    candidates_short out l = rw (last_refuses (form_rules s t) (Short 0) form_rules_law (lt-ltb _ _ l))
 
     -- and one long enough holds the candidates once they are written
     pub candidates_written : (out l : List ℕ) → cells_most ≤ length out → l ≡ candidate_bytes (machine_of s) (cases s) out
         → wrote (Answer_type.TheVariants.Done 0) l ≡ candidates_call s t out
     unfolding candidates_call bytes_rules
-    candidates_written out l room el = rw (last_passes (form_rules s t) (Short 0) form_rules_law (le_ltb _ _ room), el)
+    candidates_written out l room el = rw (last_passes (form_rules s t) (Short 0) form_rules_law (le-ltb _ _ room), el)
 
 -- what the check of a place found
 module _ (s t : List ℕ) (p : ℕ) {x : Checked_type.Checked} (e : x ≡ checked (ruling (slot_rules s t p))) where
@@ -252,7 +252,7 @@ module _ (s t : List ℕ) (p : ℕ) {x : Checked_type.Checked} (e : x ≡ checke
     -- a buffer too short for 256 bytes is refused,
     pub conflict_short : (out : List ℕ) → length out < cells_most → wrote (Answer_type.TheVariants.Refused (Short 0)) out ≡ conflict_call s t p out
     unfolding conflict_call bytes_rules
-    conflict_short out l = rw (last_refuses (slot_rules s t p) (Short 0) slot_rules_law (lt_ltb _ _ l))
+    conflict_short out l = rw (last_refuses (slot_rules s t p) (Short 0) slot_rules_law (lt-ltb _ _ l))
 
     -- and one long enough holds the conflict set once it is written
     pub conflict_written : {h : Head} {c : Case} (out l : List ℕ) → cells_most ≤ length out → h ≡ head_of s → c ≡ case_of s p
@@ -260,7 +260,7 @@ module _ (s t : List ℕ) (p : ℕ) {x : Checked_type.Checked} (e : x ≡ checke
     unfolding conflict_call bytes_rules
     conflict_written out l room eh ec el =
         let k = rw (eh, ec) at el in
-        rw (last_passes (slot_rules s t p) (Short 0) slot_rules_law (le_ltb _ _ room), k)
+        rw (last_passes (slot_rules s t p) (Short 0) slot_rules_law (le-ltb _ _ room), k)
 
 -- a cell is in the conflict set of each of some cases that fails
 abbrev stays_in : Machine → List Case → ℕ → Bool
@@ -313,7 +313,7 @@ bits_narrowed M cs l out e b =
     one : (cell : ℕ) → cell < cells_most → get_or (edit (leaves M cs) 0 cells_most out) cell 0 ≤ 1
     one cell k =
         let at = edit_in (leaves M cs) 0 cells_most out cell k (omega (arith, b.room)) in
-        rw (rw zero_add at at) (low (stays_in M cs cell) (get_or out cell 0) (b.each cell k))
+        rw (rw zero-add at at) (low (stays_in M cs cell) (get_or out cell 0) (b.each cell k))
 
 -- and cases before others leave what both leave
 narrowed_append : (M : Machine) (a b : List Case) (out : List ℕ) → narrowed_all M (a ++ b) out ≡ narrowed_all M b (narrowed_all M a out)
@@ -330,7 +330,7 @@ narrow_begins s M out = refl
 pub narrow_turn : (s : List ℕ) (M : Machine) (p : ℕ) (l m out : List ℕ) → l ≡ narrowed_all M (held_to s p) out
     → m ≡ narrowed_if (is_held s p) M (case_of s p) l → m ≡ narrowed_all M (held_to s (p + 1)) out
 unfolding held_to narrowed_all
-narrow_turn s M p l m out el em = rw (em, add_one, narrowed_append, ← el) (go (is_held s p))
+narrow_turn s M p l m out el em = rw (em, add-one, narrowed_append, ← el) (go (is_held s p))
   where
     go : (b : Bool) → narrowed_if b M (case_of s p) l ≡ narrowed_all M (case_if b (case_of s p)) l
     go true = refl

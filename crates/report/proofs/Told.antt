@@ -5,9 +5,9 @@ use Prim.Native.Nat.{ℕ, ◌+◌, ◌≤◌, ◌<◌}
 use mathlib.Core.Path.{◌≡◌, refl}
 use mathlib.Core.Bool.{true}
 use mathlib.Core.List.{List, [], ◌∷◌, ◌++◌}
-use native.Mathlib.Nat.{zero_add}
+use native.Mathlib.Nat.{zero-add}
 use native.Mathlib.Omega.{arith}
-use borrow.Author.Tests.{ltb_false, le_ltb}
+use borrow.Author.Tests.{ltb-false, le-ltb}
 use lib.ListN.{length, get_or, take}
 use Rattle.shapes.specs.Edit.{filled}
 use Rattle.shapes.specs.Keep.{bit, every}
@@ -41,13 +41,13 @@ module _ (s t : List ℕ) (k : Formed s t) where
   pub save_formed : (out : List ℕ) → length (record_file (cases s)) ≤ length out
       → save_call s t out ≡ wrote (answers.Done (length (record_file (cases s)))) (filled out 0 (record_file (cases s)))
   unfolding save_call save_rules ruling
-  save_formed out room = rw (ruling_join_fine (form_rules s t) _ (formed_rules s t k), le_ltb (length out) (length (record_file (cases s))) room)
+  save_formed out room = rw (ruling_join_fine (form_rules s t) _ (formed_rules s t k), le-ltb (length out) (length (record_file (cases s))) room)
 
   -- and the candidates are written
   pub candidates_formed : (out : List ℕ) → cells_most ≤ length out
       → candidates_call s t out ≡ wrote (answers.Done 0) (candidate_bytes (machine_of s) (cases s) out)
   unfolding candidates_call bytes_rules ruling
-  candidates_formed out room = rw (ruling_join_fine (form_rules s t) _ (formed_rules s t k), le_ltb (length out) cells_most room)
+  candidates_formed out room = rw (ruling_join_fine (form_rules s t) _ (formed_rules s t k), le-ltb (length out) cells_most room)
 
   module _ (p : ℕ) (slot : is_slot s p ≡ true) where
     -- a place that holds a case is let pass,
@@ -64,7 +64,7 @@ module _ (s t : List ℕ) (k : Formed s t) where
     pub conflict_formed : (out : List ℕ) → cells_most ≤ length out
         → conflict_call s t p out ≡ wrote (answers.Done 0) (conflict_bytes (machine_of s) (case_of s p) out)
     unfolding conflict_call bytes_rules ruling
-    conflict_formed out room = rw (ruling_join_fine (slot_rules s t p) _ slot_fine, le_ltb (length out) cells_most room)
+    conflict_formed out room = rw (ruling_join_fine (slot_rules s t p) _ slot_fine, le-ltb (length out) cells_most room)
 
 -- a buffer that was written was let pass: so much was answered, and the new list is left
 pub written_done : (v : Ruling Refusal) (n m : ℕ) (old new left : List ℕ) → written_or v n old new ≡ wrote (answers.Done m) left
@@ -89,7 +89,7 @@ save_reads_back s t out n left e =
     let d = written_done (ruling (save_rules s t out)) _ n out _ left e in
     let j = ruling_joined (form_rules s t) _ d.0 in
     let k = rules_formed s t j.0 in
-    let room = ltb_false (length out) (length (record_file (cases s))) ((fine_when _).0 j.1).0 in
+    let room = ltb-false (length out) (length (record_file (cases s))) ((fine_when _).0 j.1).0 in
     let file : take n left ≡ record_file (cases s) = rw (← d.1.0, ← d.1.1) (take_filled out (record_file (cases s)) room) in
     rw file (record_reads_back (cases s) (cases_most_law s) (good_recordable (head_of s) (cases s) (cases_good s t k)))
 
@@ -107,5 +107,5 @@ unfolding candidates_call candidate_bytes bytes_rules
 candidates_byte s t out n left e cell l =
     let d = written_done (ruling (form_rules s t ++ bytes_rules out)) _ n out _ left e in
     let j = ruling_joined (form_rules s t) _ d.0 in
-    let room = ltb_false (length out) cells_most ((fine_when _).0 j.1).0 in
-    rw (← d.1.1) (rw zero_add at (edit_in (λ c old. bit (is_candidate (machine_of s) (cases s) c)) 0 cells_most out cell l (omega arith)))
+    let room = ltb-false (length out) cells_most ((fine_when _).0 j.1).0 in
+    rw (← d.1.1) (rw zero-add at (edit_in (λ c old. bit (is_candidate (machine_of s) (cases s) c)) 0 cells_most out cell l (omega arith)))

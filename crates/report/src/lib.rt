@@ -1,4 +1,5 @@
 // What a session shows of its cases (document 01, "Symptoms, conflict sets, verdict", "Session memory").
+#![tactic(auto)]
 
 // The held cases as a record.
 pub mod save;

@@ -4,12 +4,12 @@
 use Prim.Native.Nat.{ℕ, zero, suc, ◌+◌, ◌-◌, ◌*◌, ◌≤◌, ◌<◌}
 use mathlib.Core.Path.{◌≡◌, sym, ap, ◌∙◌}
 use mathlib.Core.Bool.{true}
-use mathlib.Core.List.{List, [], ◌∷◌, ◌++◌, append_nil}
-use native.Mathlib.Nat.{add_zero, sub_zero}
-use native.Mathlib.Numerals.{add_one}
+use mathlib.Core.List.{List, [], ◌∷◌, ◌++◌, append-nil}
+use native.Mathlib.Nat.{add-zero, sub-zero}
+use native.Mathlib.Numerals.{add-one}
 use native.Mathlib.Omega.{arith}
-use lib.ListN.{length, get_or, take, drop, length_append, length_drop}
-use lib.Seq.{take_suc, take_at, get_or_drop, drop_drop}
+use lib.ListN.{length, get_or, take, drop, length-append, length-drop}
+use lib.Seq.{take-suc, take_at, get_or-drop, drop-drop}
 use Rattle.shapes.specs.Refusals.{ruling, fine}
 use Rattle.machine.specs.Case.{Case, no_case}
 use Rattle.house.specs.File.{rest_at}
@@ -24,7 +24,7 @@ module _ (file : List ℕ) (at : ℕ) (fits : case_fits file at ≡ true) where
   -- a case that fits has as many bytes as the place after it is away
   case_size : length (case_bytes (case_at file at)) ≡ 1 + 2 * steps_at file at
   case_size =
-      let e = simp (length_append, length_drop) at (ap length (case_there file at fits)) in
+      let e = simp (length-append, length-drop) at (ap length (case_there file at fits)) in
       let f = case_fits_law file at fits in
       omega arith
 
@@ -35,10 +35,10 @@ module _ (file : List ℕ) (at : ℕ) (fits : case_fits file at ≡ true) where
 -- from the place of a position on stand the cases from that position on
 cases_stand_from : (file : List ℕ) (n i : ℕ) → i ≤ n → drop i (cases_from file n rest_at) ≡ cases_from file (n - i) (place_of file i)
 unfolding place_of
-cases_stand_from file n zero h = rw sub_zero
+cases_stand_from file n zero h = rw sub-zero
 cases_stand_from file n (suc i) h =
     let e = cases_stand_from file n i (omega arith) ∙ next_case file n i (place_of file i) h in
-    rw (← add_one i, ← drop_drop 1 i (cases_from file n rest_at)) (ap (drop 1) e)
+    rw (← add-one i, ← drop-drop 1 i (cases_from file n rest_at)) (ap (drop 1) e)
 
 -- so the case at the place of a position is the case at the position
 pub case_positioned : (file : List ℕ) (i : ℕ) → i < count_of (count_in file) → case_at file (place_of file i) ≡ at_position (cases_in file) i
@@ -46,13 +46,13 @@ unfolding cases_in at_position
 case_positioned file i h =
     let n : ℕ = count_of (count_in file) in
     let e = cases_stand_from file n i (omega arith) ∙ next_case file n i (place_of file i) h in
-    let d = get_or_drop i (cases_from file n rest_at) 0 no_case in
-    sym (ap (λ l. get_or l 0 no_case) e) ∙ d ∙ rw add_zero
+    let d = get_or-drop i (cases_from file n rest_at) 0 no_case in
+    sym (ap (λ l. get_or l 0 no_case) e) ∙ d ∙ rw add-zero
 
 -- one case more is its bytes more
 rest_longer : (cs : List Case) (c : Case) → length (rest_of (cs ++ (c ∷ []))) ≡ length (rest_of cs) + length (case_bytes c)
 unfolding rest_of
-rest_longer cs c = rw (rest_append, length_append, append_nil)
+rest_longer cs c = rw (rest_append, length-append, append-nil)
 
 module _ (file : List ℕ) (ok : ruling (record_rules file) ≡ fine) where
   -- the place of a position comes after as many bytes as the record of the cases before it has
@@ -62,7 +62,7 @@ module _ (file : List ℕ) (ok : ruling (record_rules file) ≡ fine) where
   place_in_law (suc i) h =
       let cs : List Case = cases_in file in
       let e = place_in_law i (omega arith) in
-      let t = take_suc cs i no_case (rw (cases_counted file) h) in
+      let t = take-suc cs i no_case (rw (cases_counted file) h) in
       let c : case_at file (place_of file i) ≡ get_or cs i no_case = case_positioned file i h in
       let s = case_size file (place_of file i) (place_fits file ok i h) in
       let m = rest_longer (take i cs) (get_or cs i no_case) in

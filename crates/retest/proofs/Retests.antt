@@ -6,13 +6,13 @@ use mathlib.Core.Path.{◌≡◌, refl, sym, ap, ◌∙◌}
 use mathlib.Core.Bool.{Bool, true, false, cond, ◌&&◌, ◌||◌}
 use mathlib.Core.Logic.{◌↔◌}
 use mathlib.Core.List.{List, [], ◌∷◌, ◌++◌}
-use borrow.Author.Tests.{eq_eqb, ne_eqb, eqb_true, le_leb, lt_leb, leb_false}
-use native.Mathlib.Nat.{zero_add, add_zero, sub_zero}
-use native.Mathlib.Numerals.{add_one}
+use borrow.Author.Tests.{eq-eqb, ne_eqb, eqb-true, le-leb, lt-leb, leb-false}
+use native.Mathlib.Nat.{zero-add, add-zero, sub-zero}
+use native.Mathlib.Numerals.{add-one}
 use native.Mathlib.Omega.{arith}
 use lib.Dec.{eqb, leb}
-use lib.ListN.{length, get_or, take, drop, length_drop, drop_of_length_le}
-use lib.Seq.{length_take_le, drop_cons, get_or_take, get_or_drop}
+use lib.ListN.{length, get_or, take, drop, length-drop, drop_of_length-le}
+use lib.Seq.{length-take-le, drop-cons, get_or-take, get_or-drop}
 use Rattle.shapes.specs.Keep.{some}
 use Rattle.shapes.specs.Refusals.{when, Ruling, ruling, fine, refused}
 use Rattle.shapes.proofs.Tests.{and_true, or_false}
@@ -46,7 +46,7 @@ same_other (x ∷ xs) (y ∷ ys) n = go (eqb x y) (same_other xs ys (λ e. n (ap
 same_self : (xs : List ℕ) → same xs xs ≡ true
 unfolding same
 same_self [] = refl
-same_self (x ∷ xs) = rw (eq_eqb x x refl) (same_self xs)
+same_self (x ∷ xs) = rw (eq-eqb x x refl) (same_self xs)
 
 -- and as no other
 same_equal : (xs ys : List ℕ) → same xs ys ≡ true → xs ≡ ys
@@ -54,7 +54,7 @@ unfolding same
 same_equal [] [] e = refl
 same_equal [] (y ∷ ys) e = cc
 same_equal (x ∷ xs) [] e = cc
-same_equal (x ∷ xs) (y ∷ ys) e = let a = and_true _ _ e in rw (eqb_true x y a.0, same_equal xs ys a.1)
+same_equal (x ∷ xs) (y ∷ ys) e = let a = and_true _ _ e in rw (eqb-true x y a.0, same_equal xs ys a.1)
 
 -- two cases have the same inputs exactly if their inputs are equal
 pub same_inputs_law : (c d : Case) → (same_inputs c d ≡ true) ↔ (c.inputs ≡ d.inputs)
@@ -66,18 +66,18 @@ module _ (file : List ℕ) (at : ℕ) (ends : case_end file at ≤ length file) 
   -- it has as many inputs as its length byte says
   inputs_many : length (case_at file at).inputs ≡ get_or file at 0
   unfolding case_at
-  inputs_many = length_take_le _ _ (rw length_drop (omega arith))
+  inputs_many = length-take-le _ _ (rw length-drop (omega arith))
 
   -- each of them is the byte that stands there
   inputs_next : (i : ℕ) → i < get_or file at 0 → drop i (case_at file at).inputs ≡ get_or file (at + 1 + i) 0 ∷ drop (i + 1) (case_at file at).inputs
   unfolding case_at
   inputs_next i h =
-      rw (add_one i, ← get_or_drop (at + 1) file i 0, ← get_or_take (get_or file at 0) (drop (at + 1) file) i 0 h)
-      (drop_cons _ i 0 (rw inputs_many h))
+      rw (add-one i, ← get_or-drop (at + 1) file i 0, ← get_or-take (get_or file at 0) (drop (at + 1) file) i 0 h)
+      (drop-cons _ i 0 (rw inputs_many h))
 
   -- and no more
   inputs_end : (i : ℕ) → get_or file at 0 ≤ i → drop i (case_at file at).inputs ≡ []
-  inputs_end i h = drop_of_length_le _ {i = i} (rw inputs_many h)
+  inputs_end i h = drop_of_length-le _ {i = i} (rw inputs_many h)
 
 -- a comparison of the inputs of two cases has come to step i: they have as many steps, and what is left to compare decides
 pub record Comparing (a : List ℕ) (p : ℕ) (b : List ℕ) (q steps i : ℕ) : Type 0 where
@@ -116,7 +116,7 @@ module _ (a : List ℕ) (p : ℕ) (b : List ℕ) (q : ℕ) (one : case_end a p �
       -- one with the same is passed
       pub compare_goes_on : i < steps → get_or a (p + 1 + i) 0 ≡ get_or b (q + 1 + i) 0 → Comparing a p b q steps (i + 1)
       compare_goes_on h e =
-          record { few = omega arith; ours = s.ours; theirs = s.theirs; rest = rw (eq_eqb _ _ e) at (compare_turn h) }
+          record { few = omega arith; ours = s.ours; theirs = s.theirs; rest = rw (eq-eqb _ _ e) at (compare_turn h) }
 
       -- at the end all are the same
       pub compare_ends : steps ≤ i → true ≡ same_inputs (case_at a p) (case_at b q)
@@ -134,7 +134,7 @@ module _ (c : Case) (b : List ℕ) where
   -- it begins at the first place
   pub search_begins : Searching c b rest_at
   unfolding place_of cases_in
-  search_begins = record { position = 0; few = omega arith; here = refl; rest = rw (sub_zero, zero_add) }
+  search_begins = record { position = 0; few = omega arith; here = refl; rest = rw (sub-zero, zero-add) }
 
   module _ (at : ℕ) (s : Searching c b at) (ok : ruling (record_rules b) ≡ fine) where
     -- short of the end a case stands there
@@ -149,7 +149,7 @@ module _ (c : Case) (b : List ℕ) where
     pub search_finds : at < length b → same_inputs c (case_at b at) ≡ true → at ≡ place_of b (match_of c (cases_in b))
     unfolding match_of
     search_finds h e =
-        let m = rw (next_case b _ _ at (search_inside h), e, add_zero) at s.rest in
+        let m = rw (next_case b _ _ at (search_inside h), e, add-zero) at s.rest in
         s.here ∙ ap (place_of b) m
 
     -- one that has not is passed
@@ -173,7 +173,7 @@ module _ (c : Case) (b : List ℕ) where
     search_ends h =
         let l = place_past b ok s.position s.few (rw s.here at h) in
         let d : count_of (count_in b) - s.position ≡ 0 = omega arith in
-        s.here ∙ ap (place_of b) (rw (d, add_zero) at s.rest)
+        s.here ∙ ap (place_of b) (rw (d, add-zero) at s.rest)
 
 module _ (c : Case) where
   -- no more cases come before the first with the inputs of a case than there are
@@ -248,11 +248,11 @@ module _ (a b : List ℕ) (position : ℕ) where
 
     -- on a position with no case
     pub rules_position : {n : ℕ} → n ≡ count_of (count_in a) → n ≤ position → ruling (retest_rules a b position) ≡ refused Slot
-    rules_position c h = rules_last ∙ ruling_here Slot [] (le_leb (count_of (count_in a)) position (rw (← c) h))
+    rules_position c h = rules_last ∙ ruling_here Slot [] (le-leb (count_of (count_in a)) position (rw (← c) h))
 
     -- or on one with a case
     pub rules_fine : {n : ℕ} → n ≡ count_of (count_in a) → position < n → ruling (retest_rules a b position) ≡ fine
-    rules_fine c h = rules_last ∙ ruling_past Slot [] (lt_leb (count_of (count_in a)) position (rw (← c) h)) ∙ ruling_end
+    rules_fine c h = rules_last ∙ ruling_past Slot [] (lt-leb (count_of (count_in a)) position (rw (← c) h)) ∙ ruling_end
 
   -- so where they say nothing both records are whole and the position has a case
   pub rules_known : ruling (retest_rules a b position) ≡ fine
@@ -261,13 +261,13 @@ module _ (a b : List ℕ) (position : ℕ) where
   rules_known e =
       let l = ruling_joined (record_rules a ++ record_rules b) _ e in
       let r = ruling_joined (record_rules a) _ l.0 in
-      (r.0, r.1, leb_false _ _ ((fine_when _).0 l.1).0)
+      (r.0, r.1, leb-false _ _ ((fine_when _).0 l.1).0)
 
   -- on refusal the part handed back is empty, and begins where the first record does
   pub picks_none : (s t : ℕ × ℕ) {r : Refusal} → ruling (retest_rules a b position) ≡ refused r
       → ([] ≡ retested a b position) × (further 0 s ≡ retested_at s t a b position)
   unfolding retested retested_at
-  picks_none s t e = rw e (refl, rw zero_add)
+  picks_none s t e = rw e (refl, rw zero-add)
 
   -- the case at the position
   abbrev own : Case

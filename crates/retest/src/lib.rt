@@ -1,4 +1,6 @@
 // Retest (document 01, "House files"): a case of a first record, or the first case of a retest record that has the same inputs.
+#![tactic(auto)]
+
 ghost use Rattle.std.specs.Prelude.{◌≡◌, ◌≤◌, ◌<◌, length};
 ghost use Rattle.shapes.specs.Refusals.{ruling, fine};
 ghost use Rattle.house.specs.Refusal.{checked};

@@ -5,8 +5,8 @@ use Prim.Native.Nat.{ℕ, suc, ◌+◌, ◌-◌, ◌≤◌, ◌<◌}
 use mathlib.Core.Path.{◌≡◌, refl, sym, subst, ◌∙◌}
 use mathlib.Core.Bool.{Bool, true, false, cond}
 use mathlib.Core.List.{List}
-use borrow.Author.Tests.{ltb_false, leb_false, not_false}
-use native.Mathlib.Nat.{sub_zero}
+use borrow.Author.Tests.{ltb-false, leb-false, not-false}
+use native.Mathlib.Nat.{sub-zero}
 use native.Mathlib.Omega.{arith}
 use lib.Dec.{ltb}
 use lib.ListN.{length, get_or}
@@ -109,7 +109,7 @@ module _ (s t : List ℕ) (o : Offer) (x : Checked) (e : x ≡ checked (ruling (
     add_known =
         let a = ruling_joined (form_rules s t) _ (told_fine _ e d) in
         let b = ruling_joined (case_rules (head_of s) alone o.case) _ a.1 in
-        (rules_formed s t a.0, ((case_fine (head_of s) alone o.case).0 b.0, leb_false _ _ ((fine_when _).0 b.1).0))
+        (rules_formed s t a.0, ((case_fine (head_of s) alone o.case).0 b.0, leb-false _ _ ((fine_when _).0 b.1).0))
 
     -- and answers and leaves what an addition is to
     pub add_done : {n : ℕ} {s' t' : List ℕ} → n ≡ free_place s → s' ≡ placed s (free_place s) o.case → t' ≡ raised s o.case t
@@ -130,7 +130,7 @@ module _ (s t : List ℕ) (p : ℕ) (x : Checked) (e : x ≡ checked (ruling (wi
     withdraw_known =
         let a = ruling_joined (slot_rules s t p) _ (told_fine _ e d) in
         let b = rules_slot s t p a.0 in
-        (b.0, (b.1, not_false _ ((fine_when _).0 a.1).0))
+        (b.0, (b.1, not-false _ ((fine_when _).0 a.1).0))
 
     -- whose place can be cleared;
     pub clear_known : (session_size ≤ length s) × (p < places_most)
@@ -156,7 +156,7 @@ module _ (s t : List ℕ) (p : ℕ) (o : Offer) (x : Checked) (e : x ≡ checked
         let a = ruling_joined (slot_rules s t p) _ (told_fine _ e d) in
         let b = ruling_joined (case_rules (head_of s) alone o.case) _ a.1 in
         let k = rules_slot s t p a.0 in
-        ((k.0, (k.1, not_false _ ((fine_when _).0 b.1).0)), (case_fine (head_of s) alone o.case).0 b.0)
+        ((k.0, (k.1, not-false _ ((fine_when _).0 b.1).0)), (case_fine (head_of s) alone o.case).0 b.0)
 
     -- so that the old case can be counted out,
     pub amend_takes : Formed s t × ((is_slot s p ≡ true) × (can_take s t p ≡ true))
@@ -208,7 +208,7 @@ module _ (s t file : List ℕ) (x : RecordFile) (e : x ≡ record_or (ruling (lo
         let a = ruling_joined (form_rules s t) _ load_counted.0 in
         let b = ruling_joined (record_rules file) _ a.1 in
         let g = ruling_joined (cases_rules (head_of s) alone (cases_in file)) _ b.1 in
-        let l : length (cases_in file) ≤ places_most - length (cases s) = ltb_false _ _ ((fine_when _).0 g.1).0 in
+        let l : length (cases_in file) ≤ places_most - length (cases s) = ltb-false _ _ ((fine_when _).0 g.1).0 in
         (rules_formed s t a.0, (b.0, (load_counted.1, ((cases_fine (head_of s) alone (cases_in file)).0 g.0, omega (arith, cases_most_law s)))))
 
     -- and what a load is to answer and to leave
@@ -241,10 +241,10 @@ module _ (s t file : List ℕ) (count : ℕ) where
         formed = k;
         same_session = refl;
         same_tallies = refl;
-        stored = rw (sub_zero, e);
-        counted = rw (sub_zero, e);
-        good = rw (sub_zero, e) g;
-        room = rw (sub_zero, e, ← cases_counted file) l;
+        stored = rw (sub-zero, e);
+        counted = rw (sub-zero, e);
+        good = rw (sub-zero, e) g;
+        room = rw (sub-zero, e, ← cases_counted file) l;
       }
 
   module _ (i at : ℕ) (s' t' : List ℕ) (h : Holding s t file count i at s' t') where

@@ -10,7 +10,7 @@ use mathlib.Core.Logic.{◌↔◌}
 use native.Mathlib.Omega.{arith}
 use lib.Dec.{eqb, ltb, leb}
 use lib.ListN.{length, get_or}
-use borrow.Author.Tests.{eqb_true, eqb_false, lt_ltb, le_ltb, le_leb, lt_leb, ltb_true, ltb_false, leb_true, leb_false}
+use borrow.Author.Tests.{eqb-true, eqb-false, lt-ltb, le-ltb, le-leb, lt-leb, ltb-true, ltb-false, leb-true, leb-false}
 use Rattle.shapes.specs.Keep.{every}
 use Rattle.shapes.specs.Refusals.{Rule, when, Ruling, fine, refused, ruling}
 use Rattle.shapes.proofs.First.{first_same}
@@ -153,7 +153,7 @@ module _ (s t : List ℕ) (m : Model) (k : Shows s t m) where
   slot_shown p = go (ltb p places_most) refl
     where
       go : (b : Bool) → ltb p places_most ≡ b → (b && is_holding (m.at p)) ≡ (b && is_held s p)
-      go true e = held_shown p (ltb_true p places_most e)
+      go true e = held_shown p (ltb-true p places_most e)
       go false e = refl
 
   -- and the same cases can be run
@@ -181,9 +181,9 @@ module _ (s t : List ℕ) (m : Model) (k : Shows s t m) where
       here = (λ i. cond (held_placed s room p l c fits i) (holds (case_placed s room p l c fits i)) free) ∙ is
 
       go : (q : ℕ) → q < places_most → (b : Bool) → eqb q p ≡ b → content_of (placed s p c) q ≡ cond b x (m.at q)
-      go q h true e = rw (eqb_true q p e) here
+      go q h true e = rw (eqb-true q p e) here
       go q h false e =
-          let other = eqb_false q p e in
+          let other = eqb-false q p e in
           let steps = steps_elsewhere s room p l c fits q h other in
           let case = case_elsewhere s room p l c fits q h other (places_few s t k.formed q h) in
           (λ i. cond (not (eqb (steps i) 0)) (holds (case i)) free) ∙ k.same_places q h
@@ -289,8 +289,8 @@ add_decides s t m k o =
     (decides_one (leb places_most (free_place s)) (ltb (free_place s) places_most) _ (low (ltb (free_place s) places_most) refl))))
   where
     low : (b : Bool) → ltb (free_place s) places_most ≡ b → leb places_most (free_place s) ≡ not b
-    low true e = lt_leb places_most (free_place s) (ltb_true (free_place s) places_most e)
-    low false e = le_leb places_most (free_place s) (ltb_false (free_place s) places_most e)
+    low true e = lt-leb places_most (free_place s) (ltb-true (free_place s) places_most e)
+    low false e = le-leb places_most (free_place s) (ltb-false (free_place s) places_most e)
 
 -- a place is let pass exactly if it holds a case
 slot_decides : (s t : List ℕ) (m : Model) → Shows s t m → (p : ℕ) → Decides (ruling (slot_rules s t p)) (is_slot s p)
@@ -331,8 +331,8 @@ room_left : (n k : ℕ) → n ≤ places_most → ltb (places_most - n) k ≡ no
 room_left n k few = go (leb (n + k) places_most) refl
   where
     go : (b : Bool) → leb (n + k) places_most ≡ b → ltb (places_most - n) k ≡ not b
-    go true e = let l = leb_true (n + k) places_most e in le_ltb (places_most - n) k (omega arith)
-    go false e = let l = leb_false (n + k) places_most e in lt_ltb (places_most - n) k (omega arith)
+    go true e = let l = leb-true (n + k) places_most e in le-ltb (places_most - n) k (omega arith)
+    go false e = let l = leb-false (n + k) places_most e in lt-ltb (places_most - n) k (omega arith)
 
 -- and a load
 load_decides : (s t : List ℕ) (m : Model) → Shows s t m → (file : List ℕ)
@@ -386,7 +386,7 @@ call_follows (add o) s t m k =
       next = λ e.
           let a = and_true (fits_table m o.case) _ e in
           add_shows s t m k o.case (sym (fits_shown s t m k o.case) ∙ a.0)
-          (rw (free_shown s t m k) at (ltb_true (lowest m.at) places_most a.1));
+          (rw (free_shown s t m k) at (ltb-true (lowest m.at) places_most a.1));
     }
 call_follows (amend p o) s t m k =
     record {
@@ -425,7 +425,7 @@ call_follows (load file) s t m k =
           let a = and_true (is_record (record_read file)) _ e in
           let b = and_true (all_good m.head (cases_in file)) _ a.1 in
           load_shows s t m (cases_in file) k (subst (λ (h : Head). all_good h (cases_in file) ≡ true) (sym k.same_head) b.0)
-          (rw (← shown_cases s t m k) at (leb_true (length (cases_held m) + length (cases_in file)) places_most b.1));
+          (rw (← shown_cases s t m k) at (leb-true (length (cases_held m) + length (cases_in file)) places_most b.1));
     }
 
 -- a call whose rules let it pass exactly if the model takes it changes both or neither,

@@ -3,13 +3,13 @@
 -- Assumes nothing.
 use Prim.Native.Nat.{ℕ, zero, suc, ◌+◌, ◌-◌, ◌≤◌, ◌<◌}
 use mathlib.Core.Path.{◌≡◌, refl, sym, ap, ◌∙◌}
-use mathlib.Core.List.{List, [], ◌∷◌, ◌++◌, append_nil, append_assoc}
+use mathlib.Core.List.{List, [], ◌∷◌, ◌++◌, append-nil, append_assoc}
 use mathlib.Core.Bool.{Bool, true, false, cond, not}
 use mathlib.Core.Logic.{◌⊎◌, inl, inr}
-use native.Mathlib.Nat.{eq_or_lt_of_le, add_zero, add_suc}
+use native.Mathlib.Nat.{eq-or-lt_of_le, add-zero, add-suc}
 use native.Mathlib.Omega.{arith}
 use lib.ListN.{length}
-use borrow.Author.Tests.{eq_eqb, ne_eqb}
+use borrow.Author.Tests.{eq-eqb, ne_eqb}
 use Rattle.shapes.specs.First.{first}
 use Rattle.machine.specs.Case.{Case}
 use Rattle.memory.specs.Layout.{places_most}
@@ -20,7 +20,7 @@ first_is : (p : ℕ → Bool) (at left n : ℕ) → at ≤ n → n < at + left �
 unfolding first
 first_is p at zero n low high fails good = absurd (omega arith)
 first_is p at (suc left) n low high fails good =
-    go (eq_or_lt_of_le low) (λ past. first_is p (suc at) left n past (omega arith) fails good)
+    go (eq-or-lt_of_le low) (λ past. first_is p (suc at) left n past (omega arith) fails good)
   where
     go : (at ≡ n) ⊎ (at < n) → (at < n → first p (suc at) left ≡ n) → cond (p at) at (first p (suc at) left) ≡ n
     go (inl here) rest = rw (here, good)
@@ -42,12 +42,12 @@ cases_same at at' (suc n) each = rw (cases_same at at' n (λ p l. each p (omega 
 -- free places hold no cases
 cases_free : (at : ℕ → Content) (n more : ℕ) → ((p : ℕ) → n ≤ p → at p ≡ free) → cases_to at (n + more) ≡ cases_to at n
 unfolding cases_to
-cases_free at n zero none = rw add_zero
-cases_free at n (suc more) none = rw (add_suc n more, none (n + more) (omega arith), append_nil) (cases_free at n more none)
+cases_free at n zero none = rw add-zero
+cases_free at n (suc more) none = rw (add-suc n more, none (n + more) (omega arith), append-nil) (cases_free at n more none)
 
 -- what a changed place holds is what was put there,
 put_here : (at : ℕ → Content) (n : ℕ) (x : Content) → put at n x n ≡ x
-put_here at n x = rw (eq_eqb n n refl)
+put_here at n x = rw (eq-eqb n n refl)
 
 -- and another place holds what it held
 put_elsewhere : (at : ℕ → Content) (n : ℕ) (x : Content) (p : ℕ) → (p ≡ n → ⊥) → put at n x p ≡ at p
@@ -65,10 +65,10 @@ put_in_order : (at : ℕ → Content) (n : ℕ) (cs : List Case) → ((p : ℕ) 
 unfolding put_all
 put_in_order at n [] held none few =
     let all : places_most ≡ n + (places_most - n) = omega arith in
-    ap (cases_to at) all ∙ cases_free at n (places_most - n) none ∙ sym (append_nil (cases_to at n))
+    ap (cases_to at) all ∙ cases_free at n (places_most - n) none ∙ sym (append-nil (cases_to at n))
 put_in_order at n (c ∷ cs) held none few =
     rw (lowest_is at n (omega arith) held (none n (omega arith)))
-    (put_in_order next (suc n) cs (λ p l. held_next p (eq_or_lt_of_le (omega arith))) none_next (omega arith)
+    (put_in_order next (suc n) cs (λ p l. held_next p (eq-or-lt_of_le (omega arith))) none_next (omega arith)
     ∙ ap (λ (l : List Case). l ++ cs) (cases_put at n c) ∙ append_assoc (cases_to at n) (c ∷ []) cs)
   where
     next : ℕ → Content

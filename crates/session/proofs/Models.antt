@@ -5,7 +5,7 @@ use mathlib.Core.Path.{◌≡◌, refl}
 use mathlib.Core.Bool.{Bool, true, false, cond, false≢true}
 use mathlib.Core.List.{List, [], ◌∷◌}
 use native.Mathlib.Omega.{arith}
-use lib.ListN.{length, length_drop}
+use lib.ListN.{length, length-drop}
 use Rattle.shapes.specs.Refusals.{Ruling, fine, refused, ruling}
 use Rattle.machine.specs.Head.{cell_count}
 use Rattle.machine.specs.Cell.{TableIn}
@@ -26,7 +26,7 @@ pub started_whole : (file : List ℕ) → table_read file ≡ Table (head_in fil
 unfolding started_model
 started_whole file read =
     let k = table_known file (head_in file) read in
-    record { table = k.0; exact = rw length_drop (omega (arith, k.1)) }
+    record { table = k.0; exact = rw length-drop (omega (arith, k.1)) }
 
 -- as is one that is taken as a table,
 is_table_law : (v : Ruling Refusal) (h : Head) → is_table (table_or v h) ≡ true → table_or v h ≡ Table h

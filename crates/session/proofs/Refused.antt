@@ -5,7 +5,7 @@ use Prim.Native.Nat.{ℕ, ◌-◌, ◌≤◌, ◌<◌}
 use mathlib.Core.Path.{◌≡◌, sym, ap, ◌∙◌}
 use mathlib.Core.Bool.{Bool, true, false}
 use mathlib.Core.List.{List}
-use borrow.Author.Tests.{le_leb, lt_leb, lt_ltb, le_ltb}
+use borrow.Author.Tests.{le-leb, lt-leb, lt-ltb, le-ltb}
 use native.Mathlib.Omega.{arith}
 use lib.Dec.{ltb, leb}
 use lib.ListN.{length, get_or}
@@ -84,20 +84,20 @@ module _ (s t file : List ℕ) {x : Checked} (e : x ≡ checked (ruling (start_r
 module _ (s : List ℕ) {n : ℕ} (e : n ≡ free_place s) where
   -- there is no free place where the lowest is none of the 64,
   pub full_here : places_most ≤ n → leb places_most (free_place s) ≡ true
-  full_here l = le_leb places_most (free_place s) (omega arith)
+  full_here l = le-leb places_most (free_place s) (omega arith)
 
   -- and else there is one
   pub full_not : n < places_most → leb places_most (free_place s) ≡ false
-  full_not l = lt_leb places_most (free_place s) (omega arith)
+  full_not l = lt-leb places_most (free_place s) (omega arith)
 
 module _ (s file : List ℕ) {held count : ℕ} (e : held ≡ length (cases s)) (d : count ≡ count_of (count_in file)) where
   -- there are fewer free places than cases to add,
   pub crowded : places_most - held < count → ltb (places_most - length (cases s)) (length (cases_in file)) ≡ true
-  crowded l = lt_ltb (places_most - length (cases s)) (length (cases_in file)) (omega (arith, cases_counted file))
+  crowded l = lt-ltb (places_most - length (cases s)) (length (cases_in file)) (omega (arith, cases_counted file))
 
   -- or there are not
   pub uncrowded : count ≤ places_most - held → ltb (places_most - length (cases s)) (length (cases_in file)) ≡ false
-  uncrowded l = le_ltb (places_most - length (cases s)) (length (cases_in file)) (omega (arith, cases_counted file))
+  uncrowded l = le-ltb (places_most - length (cases s)) (length (cases_in file)) (omega (arith, cases_counted file))
 
 -- some case is held where one is at a place
 pub slot_some : (s t : List ℕ) (p : ℕ) → Formed s t × (is_slot s p ≡ true) → 1 ≤ length (cases s)

@@ -7,7 +7,7 @@ use mathlib.Core.List.{List, []}
 use mathlib.Core.Bool.{true}
 use native.Mathlib.Omega.{arith}
 use lib.ListN.{length, get_or}
-use borrow.Author.Tests.{le_leb}
+use borrow.Author.Tests.{le-leb}
 use Rattle.shapes.specs.Keep.{count}
 use Rattle.shapes.proofs.First.{all_from}
 use Rattle.shapes.proofs.Keep.{count_most}
@@ -95,7 +95,7 @@ module _ (s t : List ℕ) (p : ℕ) (k : Formed s t) (now : TrueTallies s t) (sl
           let e = tally_old f m in
           let n = tally_few (head_of s) (cells_of s) (cases (placed s p no_case)) f in
           let o = length_more old in
-          rw (le_leb (miss s (case_of s p) f) (get_or t f 0) (omega arith), le_leb (get_or t f 0 - miss s (case_of s p) f) (length (cases s) - 1) (omega arith))
+          rw (le-leb (miss s (case_of s p) f) (get_or t f 0) (omega arith), le-leb (get_or t f 0 - miss s (case_of s p) f) (length (cases s) - 1) (omega arith))
 
   -- and they stay true with a withdrawal
   pub withdraw_true : TrueTallies (placed s p no_case) (lowered s (case_of s p) t)

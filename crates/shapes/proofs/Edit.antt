@@ -6,13 +6,13 @@ use mathlib.Core.Path.{◌≡◌, refl, sym, ◌∙◌}
 use mathlib.Core.Bool.{Bool, true, false}
 use mathlib.Core.Logic.{◌⊎◌, inl, inr, ◌≢◌}
 use mathlib.Core.List.{List, [], ◌∷◌, ◌++◌}
-use native.Mathlib.Numerals.{add_one, add_two, add_three}
-use native.Mathlib.Nat.{eq_or_lt_of_le, zero_add, add_zero, add_suc, add_assoc}
+use native.Mathlib.Numerals.{add-one, add-two, add-three}
+use native.Mathlib.Nat.{eq-or-lt_of_le, zero-add, add-zero, add-suc, add_assoc}
 use native.Mathlib.Omega.{arith}
 use lib.Dec.{ltb}
-use borrow.Author.Tests.{ltb_true, ltb_false}
-use lib.ListN.{length, get_or, set, take, drop, length_set, length_append, get_or_append, get_or_eq_default}
-use lib.Seq.{set_get_or, get_or_set_same, get_or_set_other, get_or_append_add, get_or_take, length_take_le, ext_get_or, drop_cons}
+use borrow.Author.Tests.{ltb-true, ltb-false}
+use lib.ListN.{length, get_or, set, take, drop, length-set, length-append, get_or-append, get_or-eq_default}
+use lib.Seq.{set-get_or, get_or-set_same, get_or-set_other, get_or-append-add, get_or-take, length-take-le, ext_get_or, drop-cons}
 use Rattle.shapes.specs.Edit.{edit, KeptFrom, filled}
 
 module _ (f : ℕ → ℕ → ℕ) (at : ℕ) where
@@ -24,13 +24,13 @@ module _ (f : ℕ → ℕ → ℕ) (at : ℕ) where
   -- a loop's turn: one more is stored
   pub edit_more : (n : ℕ) (l : List ℕ) → edit f at (n + 1) l ≡ set (edit f at n l) (at + n) (f n (get_or l (at + n) 0))
   unfolding edit
-  edit_more n l = rw add_one
+  edit_more n l = rw add-one
 
   -- the length stays
   pub length_edit : (n : ℕ) (l : List ℕ) → length (edit f at n l) ≡ length l
   unfolding edit
   length_edit zero l = refl
-  length_edit (suc n) l = let e = length_edit n l in rw (length_set, e)
+  length_edit (suc n) l = let e = length_edit n l in rw (length-set, e)
 
   -- what stands before the part stays
   pub edit_out_below : (n : ℕ) (l : List ℕ) (j : ℕ) → j < at → get_or (edit f at n l) j 0 ≡ get_or l j 0
@@ -38,7 +38,7 @@ module _ (f : ℕ → ℕ → ℕ) (at : ℕ) where
   edit_out_below zero l j h = refl
   edit_out_below (suc n) l j h =
       let o : j ≢ at + n = λ e. omega arith in
-      let e = edit_out_below n l j h in rw (get_or_set_other, e)
+      let e = edit_out_below n l j h in rw (get_or-set_other, e)
 
   -- what stands after the part stays
   pub edit_out_above : (n : ℕ) (l : List ℕ) (j : ℕ) → at + n ≤ j → get_or (edit f at n l) j 0 ≡ get_or l j 0
@@ -46,7 +46,7 @@ module _ (f : ℕ → ℕ → ℕ) (at : ℕ) where
   edit_out_above zero l j h = refl
   edit_out_above (suc n) l j h =
       let o : j ≢ at + n = λ e. omega arith in
-      let e = edit_out_above n l j (omega arith) in rw (get_or_set_other, e)
+      let e = edit_out_above n l j (omega arith) in rw (get_or-set_other, e)
 
   -- what a loop reads before its next store is the old number
   pub edit_next : (n : ℕ) (l : List ℕ) → get_or (edit f at n l) (at + n) 0 ≡ get_or l (at + n) 0
@@ -60,15 +60,15 @@ module _ (f : ℕ → ℕ → ℕ) (at : ℕ) where
   pub edit_in : (n : ℕ) (l : List ℕ) (i : ℕ) → i < n → at + i < length l → get_or (edit f at n l) (at + i) 0 ≡ f i (get_or l (at + i) 0)
   unfolding edit
   edit_in zero l i h s = absurd (omega arith)
-  edit_in (suc n) l i h s = go (eq_or_lt_of_le (omega arith)) (edit_in n l i)
+  edit_in (suc n) l i h s = go (eq-or-lt_of_le (omega arith)) (edit_in n l i)
     where
       go : (i ≡ n) ⊎ (i < n) → (i < n → at + i < length l → get_or (edit f at n l) (at + i) 0 ≡ f i (get_or l (at + i) 0))
           → get_or (set (edit f at n l) (at + n) (f n (get_or l (at + n) 0))) (at + i) 0 ≡ f i (get_or l (at + i) 0)
       go (inl e) rest =
-          let h : at + n < length (edit f at n l) = omega (arith, length_edit n l) in rw (e, get_or_set_same)
+          let h : at + n < length (edit f at n l) = omega (arith, length_edit n l) in rw (e, get_or-set_same)
       go (inr p) rest =
           let o : at + i ≢ at + n = λ e. omega arith in
-          let e = rest p s in rw (get_or_set_other, e)
+          let e = rest p s in rw (get_or-set_other, e)
 
   -- two changes that agree on the part are one
   pub edit_same : (g : ℕ → ℕ → ℕ) (n : ℕ) (l : List ℕ) → ((i x : ℕ) → i < n → f i x ≡ g i x) → edit f at n l ≡ edit g at n l
@@ -81,10 +81,10 @@ module _ (f : ℕ → ℕ → ℕ) (at : ℕ) where
   -- a part changed, and then the part right after it, is one part changed
   pub edit_compose : (m n : ℕ) (l : List ℕ) → edit (λ i. f (m + i)) (at + m) n (edit f at m l) ≡ edit f at (m + n) l
   unfolding edit
-  edit_compose m zero l = rw add_zero
+  edit_compose m zero l = rw add-zero
   edit_compose m (suc n) l =
       let e = edit_compose m n l in
-      let d = edit_out_above m l (at + m + n) (omega arith) in rw (add_suc, e, d, add_assoc)
+      let d = edit_out_above m l (at + m + n) (omega arith) in rw (add-suc, e, d, add_assoc)
 
 -- a number of a list that is changed from its start on stays, or has its change
 pub edit_either : (g : ℕ → ℕ → ℕ) (n : ℕ) (l : List ℕ) (f : ℕ)
@@ -94,19 +94,19 @@ edit_either g n l f = go (ltb f n) refl (ltb f (length l)) refl
     go : (a : Bool) → ltb f n ≡ a → (b : Bool) → ltb f (length l) ≡ b
         → (get_or (edit g 0 n l) f 0 ≡ get_or l f 0) ⊎ (get_or (edit g 0 n l) f 0 ≡ g f (get_or l f 0))
     go true ea true eb =
-        let there = ltb_true f (length l) eb in
-        inr (rw zero_add at (edit_in g 0 n l f (ltb_true f n ea) (omega arith)))
+        let there = ltb-true f (length l) eb in
+        inr (rw zero-add at (edit_in g 0 n l f (ltb-true f n ea) (omega arith)))
     go true ea false eb =
-        let past = ltb_false f (length l) eb in
+        let past = ltb-false f (length l) eb in
         let same = length_edit g 0 n l in
-        inl (get_or_eq_default (edit g 0 n l) 0 {n = f} (omega arith) ∙ sym (get_or_eq_default l 0 past))
-    go false ea b eb = let past = ltb_false f n ea in inl (edit_out_above g 0 n l f (omega arith))
+        inl (get_or-eq_default (edit g 0 n l) 0 {n = f} (omega arith) ∙ sym (get_or-eq_default l 0 past))
+    go false ea b eb = let past = ltb-false f n ea in inl (edit_out_above g 0 n l f (omega arith))
 
 -- a change of nothing leaves the list
 pub edit_kept : (at n : ℕ) (l : List ℕ) → edit (λ i old. old) at n l ≡ l
 unfolding edit
 edit_kept at zero l = refl
-edit_kept at (suc n) l = let e = edit_kept at n l in rw (e, set_get_or)
+edit_kept at (suc n) l = let e = edit_kept at n l in rw (e, set-get_or)
 
 -- two parts that are changed to the same, in lists that are the same elsewhere, make the same list
 pub edit_ext : (f g : ℕ → ℕ → ℕ) (at n : ℕ) (l m : List ℕ) → length l ≡ length m → ((j : ℕ) → j < at → get_or l j 0 ≡ get_or m j 0)
@@ -119,14 +119,14 @@ edit_ext f g at n l m long below above inside =
     go : (j : ℕ) → j < length l → (a : Bool) → ltb j at ≡ a → (b : Bool) → ltb j (at + n) ≡ b
         → get_or (edit f at n l) j 0 ≡ get_or (edit g at n m) j 0
     go j h true ea b eb =
-        let k = ltb_true j at ea in
+        let k = ltb-true j at ea in
         edit_out_below f at n l j k ∙ below j k ∙ sym (edit_out_below g at n m j k)
     go j h false ea false eb =
-        let k = ltb_false j (at + n) eb in
+        let k = ltb-false j (at + n) eb in
         edit_out_above f at n l j k ∙ above j k h ∙ sym (edit_out_above g at n m j k)
     go j h false ea true eb =
-        let low = ltb_false j at ea in
-        let high = ltb_true j (at + n) eb in
+        let low = ltb-false j at ea in
+        let high = ltb-true j (at + n) eb in
         let e : j ≡ at + (j - at) = omega arith in
         let i : j - at < n = omega arith in
         let k : at + (j - at) < length l = omega arith in
@@ -140,12 +140,12 @@ length_filled l at v = length_edit _ at (length v) l
 
 -- so a store and then a write keep it
 pub length_stored : (out l : List ℕ) (at x place : ℕ) (v : List ℕ) → l ≡ filled (set out at x) place v → length l ≡ length out
-length_stored out l at x place v e = rw (e, length_filled, length_set)
+length_stored out l at x place v e = rw (e, length_filled, length-set)
 
 -- one number written is one store
 pub filled_one : (l : List ℕ) (at x : ℕ) → filled l at (x ∷ []) ≡ set l at x
 unfolding filled
-filled_one l at x = rw add_zero
+filled_one l at x = rw add-zero
 
 -- what stands after what was written stays
 pub filled_above : (l : List ℕ) (at : ℕ) (v : List ℕ) (j : ℕ) → at + length v ≤ j → get_or (filled l at v) j 0 ≡ get_or l j 0
@@ -162,30 +162,30 @@ pub take_filled : (l v : List ℕ) → length v ≤ length l → take (length v)
 take_filled l v room = ext_get_or 0 (take (length v) (filled l 0 v)) v long (λ i h. each i (rw long at h))
   where
     long : length (take (length v) (filled l 0 v)) ≡ length v
-    long = length_take_le (length v) (filled l 0 v) (rw length_filled room)
+    long = length-take-le (length v) (filled l 0 v) (rw length_filled room)
 
     each : (i : ℕ) → i < length v → get_or (take (length v) (filled l 0 v)) i 0 ≡ get_or v i 0
-    each i h = get_or_take (length v) (filled l 0 v) i 0 h ∙ (rw zero_add at (filled_in l 0 v i h (omega arith)))
+    each i h = get_or-take (length v) (filled l 0 v) i 0 h ∙ (rw zero-add at (filled_in l 0 v i h (omega arith)))
 
 -- a list written, and then another right after it, is both written as one
 pub filled_append : (l : List ℕ) (at : ℕ) (v w : List ℕ) → filled (filled l at v) (at + length v) w ≡ filled l at (v ++ w)
 unfolding filled
-filled_append l at v w = rw (length_append, ← edit_compose both at (length v) (length w) l, first, then)
+filled_append l at v w = rw (length-append, ← edit_compose both at (length v) (length w) l, first, then)
   where
     both : ℕ → ℕ → ℕ
     both i old = get_or (v ++ w) i 0
 
     first : edit (λ i old. get_or v i 0) at (length v) l ≡ edit both at (length v) l
-    first = edit_same (λ i old. get_or v i 0) at both (length v) l λ i x h. rw get_or_append
+    first = edit_same (λ i old. get_or v i 0) at both (length v) l λ i x h. rw get_or-append
 
     then : edit (λ i old. get_or w i 0) (at + length v) (length w) (edit both at (length v) l)
         ≡ edit (λ i. both (length v + i)) (at + length v) (length w) (edit both at (length v) l)
-    then = edit_same (λ i old. get_or w i 0) (at + length v) (λ i. both (length v + i)) (length w) _ λ i x h. rw get_or_append_add
+    then = edit_same (λ i old. get_or w i 0) (at + length v) (λ i. both (length v + i)) (length w) _ λ i x h. rw get_or-append-add
 
 -- a list from a place on, with its first three entries named
 pub drop_three : (l : List ℕ) (at : ℕ) → at + 3 ≤ length l → drop at l ≡ get_or l at 0 ∷ get_or l (at + 1) 0 ∷ get_or l (at + 2) 0 ∷ drop (at + 3) l
 drop_three l at h =
-    rw (add_one, add_two, add_three, drop_cons l at 0 (omega arith), drop_cons l (suc at) 0 (omega arith), drop_cons l (suc (suc at)) 0 (omega arith))
+    rw (add-one, add-two, add-three, drop-cons l at 0 (omega arith), drop-cons l (suc at) 0 (omega arith), drop-cons l (suc (suc at)) 0 (omega arith))
 
 -- nothing done leaves every tail,
 pub kept_all : (n : ℕ) (l : List ℕ) → KeptFrom n l l

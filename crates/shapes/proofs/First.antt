@@ -3,11 +3,11 @@
 use Prim.Native.Nat.{ℕ, zero, suc, ◌+◌, ◌-◌, ◌≤◌, ◌<◌}
 use mathlib.Core.Path.{◌≡◌, refl, sym, ap, ◌∙◌}
 use mathlib.Core.Bool.{Bool, true, false, cond, not, true≢false}
-use native.Mathlib.Numerals.{add_one}
+use native.Mathlib.Numerals.{add-one}
 use mathlib.Core.Logic.{◌⊎◌, inl, inr}
-use native.Mathlib.Nat.{eq_or_lt_of_le}
+use native.Mathlib.Nat.{eq-or-lt_of_le}
 use native.Mathlib.Omega.{arith}
-use borrow.Author.Tests.{eq_eqb, ne_eqb, eqb_true, not_false}
+use borrow.Author.Tests.{eq-eqb, ne_eqb, eqb-true, not-false}
 use Rattle.shapes.specs.First.{first, all_to}
 
 -- the places from `at` to below `n` are one more than those from the next place on
@@ -18,7 +18,7 @@ module _ (p : ℕ → Bool) where
   -- a loop's turn: where the test fails, the first place is looked for from the next place on
   pub first_turn : (at n : ℕ) → at < n → p at ≡ false → first p at (n - at) ≡ first p (at + 1) (n - (at + 1))
   unfolding first
-  first_turn at n h e = rw (left_one at n h, e, add_one)
+  first_turn at n h e = rw (left_one at n h, e, add-one)
 
   -- a loop's way out in the middle: the test holds here
   pub first_found : (at n : ℕ) → at < n → p at ≡ true → first p at (n - at) ≡ at
@@ -71,7 +71,7 @@ module _ (p : ℕ → Bool) where
   pub first_before : (at left i : ℕ) → at ≤ i → i < first p at left → p i ≡ false
   unfolding first
   first_before at zero i low high = absurd (omega arith)
-  first_before at (suc left) i low high = go (p at) refl (first_before (suc at) left i) (eq_or_lt_of_le low) high
+  first_before at (suc left) i low high = go (p at) refl (first_before (suc at) left i) (eq-or-lt_of_le low) high
     where
       go : (b : Bool) → p at ≡ b → (suc at ≤ i → i < first p (suc at) left → p i ≡ false) → (at ≡ i) ⊎ (at < i)
           → i < cond b at (first p (suc at) left) → p i ≡ false
@@ -90,7 +90,7 @@ pub all_from : (p : ℕ → Bool) (n : ℕ) → ((i : ℕ) → i < n → p i ≡
 unfolding all_to
 all_from p n each =
     let none = first_none (λ i. not (p i)) 0 n (λ i low l. ap not (each i (omega arith))) in
-    eq_eqb (first (λ i. not (p i)) 0 n) n (omega arith)
+    eq-eqb (first (λ i. not (p i)) 0 n) n (omega arith)
 
 -- .. as it does not where it fails at one ..
 pub all_fails : (p : ℕ → Bool) (n i : ℕ) → i < n → p i ≡ false → all_to p n ≡ false
@@ -104,8 +104,8 @@ all_fails p n i l e = ne_eqb (first (λ j. not (p j)) 0 n) n (λ same. absurd (t
 pub all_at : (p : ℕ → Bool) (n : ℕ) → all_to p n ≡ true → (i : ℕ) → i < n → p i ≡ true
 unfolding all_to
 all_at p n e i l =
-    let same = eqb_true (first (λ j. not (p j)) 0 n) n e in
-    not_false (p i) (first_before (λ j. not (p j)) 0 n i (omega arith) (omega arith))
+    let same = eqb-true (first (λ j. not (p j)) 0 n) n e in
+    not-false (p i) (first_before (λ j. not (p j)) 0 n i (omega arith) (omega arith))
 
 -- tests that agree at every place hold at every place both, or neither does
 pub all_same : (p q : ℕ → Bool) (n : ℕ) → ((i : ℕ) → i < n → p i ≡ q i) → all_to p n ≡ all_to q n

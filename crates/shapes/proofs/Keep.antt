@@ -3,24 +3,24 @@
 -- Each by induction. Assumes nothing.
 use Prim.Native.Nat.{ℕ, zero, suc, ◌+◌, ◌≤◌, ◌<◌}
 use mathlib.Core.Path.{◌≡◌, refl, sym}
-use mathlib.Core.List.{List, [], ◌∷◌, ◌++◌, append_nil}
+use mathlib.Core.List.{List, [], ◌∷◌, ◌++◌, append-nil}
 use mathlib.Core.Bool.{Bool, true, false, not, ◌&&◌, ◌||◌, false≢true}
 use mathlib.Core.Logic.{◌⊎◌, inl, inr, ◌↔◌}
-use native.Mathlib.Nat.{eq_or_lt_of_le, zero_add}
-use native.Mathlib.Numerals.{add_one}
+use native.Mathlib.Nat.{eq-or-lt_of_le, zero-add}
+use native.Mathlib.Numerals.{add-one}
 use native.Mathlib.Omega.{arith}
 use lib.Dec.{eqb, ltb}
-use lib.ListN.{length, get_or, length_append, get_or_append}
-use lib.Seq.{get_or_append_seam}
+use lib.ListN.{length, get_or, length-append, get_or-append}
+use lib.Seq.{get_or-append_seam}
 use mir.Val.{bool_byte}
-use borrow.Author.Tests.{eqb_true, eqb_false, eq_eqb, ne_eqb, lt_ltb, le_ltb, ltb_true, ltb_false}
+use borrow.Author.Tests.{eqb-true, eqb-false, eq-eqb, ne_eqb, lt-ltb, le-ltb, ltb-true, ltb-false}
 use Rattle.shapes.specs.Keep.{keep_if, keep_to, has, bit, count, every, some, Among, Rising}
 use Rattle.shapes.proofs.Tests.{and_true}
 
 -- one number more to test
 pub keep_more : (p : ℕ → Bool) (n : ℕ) → keep_to p (n + 1) ≡ keep_to p n ++ keep_if (p n) n
 unfolding keep_to
-keep_more p n = rw add_one
+keep_more p n = rw add-one
 
 -- a number is among the numbers of two lists exactly if it is among those of either
 pub has_append : (x : ℕ) (l r : List ℕ) → has x (l ++ r) ≡ (has x l || has x r)
@@ -37,9 +37,9 @@ next_below : (x n : ℕ) → ltb x (suc n) ≡ (ltb x n || eqb x n)
 next_below x n = go (ltb x n) refl (eqb x n) refl
   where
     go : (a : Bool) → ltb x n ≡ a → (b : Bool) → eqb x n ≡ b → ltb x (suc n) ≡ (a || b)
-    go true h b k = lt_ltb x (suc n) (omega (arith, ltb_true x n h))
-    go false h true k = lt_ltb x (suc n) (omega (arith, eqb_true x n k))
-    go false h false k = le_ltb x (suc n) (apart (eqb_false x n k) (ltb_false x n h))
+    go true h b k = lt-ltb x (suc n) (omega (arith, ltb-true x n h))
+    go false h true k = lt-ltb x (suc n) (omega (arith, eqb-true x n k))
+    go false h false k = le-ltb x (suc n) (apart (eqb-false x n k) (ltb-false x n h))
       where
         apart : (x ≡ n → ⊥) → n ≤ x → suc n ≤ x
         apart other le = omega arith
@@ -52,16 +52,16 @@ or_none false = refl
 -- a number is kept exactly if it is below n and the test holds at it
 pub kept : (p : ℕ → Bool) (n x : ℕ) → has x (keep_to p n) ≡ (ltb x n && p x)
 unfolding keep_to has
-kept p zero x = rw (le_ltb x 0 (omega arith))
+kept p zero x = rw (le-ltb x 0 (omega arith))
 kept p (suc n) x = rw (has_append x (keep_to p n) (keep_if (p n) n), kept p n x, next_below) (go (p n) refl (eqb x n) refl (ltb x n))
   where
     go : (b : Bool) → p n ≡ b → (e : Bool) → eqb x n ≡ e → (l : Bool) → ((l && p x) || has x (keep_if b n)) ≡ ((l || e) && p x)
-    go true t true k true = rw (eqb_true x n k, t)
-    go true t true k false = rw (eqb_true x n k, t, eq_eqb n n refl)
+    go true t true k true = rw (eqb-true x n k, t)
+    go true t true k false = rw (eqb-true x n k, t, eq-eqb n n refl)
     go true t false k true = rw k (or_none (p x))
     go true t false k false = rw k
-    go false t true k true = rw (eqb_true x n k, t)
-    go false t true k false = rw (eqb_true x n k, t)
+    go false t true k true = rw (eqb-true x n k, t)
+    go false t true k false = rw (eqb-true x n k, t)
     go false t false k true = or_none (p x)
     go false t false k false = refl
 
@@ -79,15 +79,15 @@ kept_below p (suc n) i h = go (p n) (kept_below p n i) h
   where
     go : (b : Bool) → (i < length (keep_to p n) → get_or (keep_to p n) i 0 < n) → i < length (keep_to p n ++ keep_if b n)
         → get_or (keep_to p n ++ keep_if b n) i 0 < suc n
-    go true rest h = last (eq_or_lt_of_le (fits (rw length_append at h)))
+    go true rest h = last (eq-or-lt_of_le (fits (rw length-append at h)))
       where
         fits : i < length (keep_to p n) + 1 → i ≤ length (keep_to p n)
         fits l = omega arith
 
         last : (i ≡ length (keep_to p n)) ⊎ (i < length (keep_to p n)) → get_or (keep_to p n ++ (n ∷ [])) i 0 < suc n
-        last (inl e) = rw (e, get_or_append_seam (keep_to p n) n [] 0) (omega arith)
-        last (inr l) = rw (get_or_append (keep_to p n) (n ∷ []) 0 i l) (omega (arith, rest l))
-    go false rest h = rw append_nil (omega (arith, rest (rw append_nil at h)))
+        last (inl e) = rw (e, get_or-append_seam (keep_to p n) n [] 0) (omega arith)
+        last (inr l) = rw (get_or-append (keep_to p n) (n ∷ []) 0 i l) (omega (arith, rest l))
+    go false rest h = rw append-nil (omega (arith, rest (rw append-nil at h)))
 
 -- and rises strictly, so each stands once
 pub kept_rising : (p : ℕ → Bool) (n : ℕ) → Rising (keep_to p n)
@@ -98,7 +98,7 @@ kept_rising p (suc n) i j h k = go (p n) (kept_rising p n i j h) (kept_below p n
     go : (b : Bool) → (j < length (keep_to p n) → get_or (keep_to p n) i 0 < get_or (keep_to p n) j 0)
         → (i < length (keep_to p n) → get_or (keep_to p n) i 0 < n) → j < length (keep_to p n ++ keep_if b n)
         → get_or (keep_to p n ++ keep_if b n) i 0 < get_or (keep_to p n ++ keep_if b n) j 0
-    go true rest low k = last (eq_or_lt_of_le (fits (rw length_append at k)))
+    go true rest low k = last (eq-or-lt_of_le (fits (rw length-append at k)))
       where
         fits : j < length (keep_to p n) + 1 → j ≤ length (keep_to p n)
         fits l = omega arith
@@ -107,11 +107,11 @@ kept_rising p (suc n) i j h k = go (p n) (kept_rising p n i j h) (kept_below p n
             → get_or (keep_to p n ++ (n ∷ [])) i 0 < get_or (keep_to p n ++ (n ∷ [])) j 0
         last (inl e) =
             let l : i < length (keep_to p n) = omega arith in
-            rw (e, get_or_append_seam (keep_to p n) n [] 0, get_or_append (keep_to p n) (n ∷ []) 0 i l) (low l)
+            rw (e, get_or-append_seam (keep_to p n) n [] 0, get_or-append (keep_to p n) (n ∷ []) 0 i l) (low l)
         last (inr l) =
             let m : i < length (keep_to p n) = omega arith in
-            rw (get_or_append (keep_to p n) (n ∷ []) 0 i m, get_or_append (keep_to p n) (n ∷ []) 0 j l) (rest l)
-    go false rest low k = rw append_nil (rest (rw append_nil at k))
+            rw (get_or-append (keep_to p n) (n ∷ []) 0 i m, get_or-append (keep_to p n) (n ∷ []) 0 j l) (rest l)
+    go false rest low k = rw append-nil (rest (rw append-nil at k))
 
 -- what is true is true or-ed with anything
 or_right : (a b : Bool) → b ≡ true → (a || b) ≡ true
@@ -128,11 +128,11 @@ has_at x (y ∷ l) = (λ e. there (has_at x l).0 (eqb x y) refl e, λ h. back (h
     At = (i : ℕ) × ((i < length l) × (get_or l i 0 ≡ x))
 
     there : (has x l ≡ true → At) → (b : Bool) → eqb x y ≡ b → (b || has x l) ≡ true → (i : ℕ) × ((i < suc (length l)) × (get_or (y ∷ l) i 0 ≡ x))
-    there rest true h e = (zero, (omega arith, sym (eqb_true x y h)))
+    there rest true h e = (zero, (omega arith, sym (eqb-true x y h)))
     there rest false h e = let r = rest e in (suc r.0, (omega (arith, r.1.0), r.1.1))
 
     back : (At → has x l ≡ true) → (i : ℕ) → i < suc (length l) → get_or (y ∷ l) i 0 ≡ x → (eqb x y || has x l) ≡ true
-    back rest zero h e = rw (eq_eqb x y (sym e))
+    back rest zero h e = rw (eq-eqb x y (sym e))
     back rest (suc i) h e = or_right (eqb x y) (has x l) (rest (i, (omega arith, e)))
 
 -- a truth value, cast to a number by the code, is 1 for true and 0 for false
@@ -168,7 +168,7 @@ module _ {A : Type 0} (p : A → Bool) where
     where
       go : (b : Bool) → every p l ≡ eqb (count (λ x. not (p x)) l) 0
           → (b && every p l) ≡ eqb (bit (not b) + count (λ x. not (p x)) l) 0
-      go true e = rw zero_add e
+      go true e = rw zero-add e
       go false e = sym (ne_eqb (1 + count (λ x. not (p x)) l) 0 (λ h. omega arith))
 
   -- it holds for every one exactly if it holds for each of them

@@ -2,7 +2,7 @@
 -- Assumes nothing.
 use mathlib.Core.Path.{◌≡◌, refl, sym, ◌∙◌}
 use mathlib.Core.Bool.{Bool, true, false, not, ◌&&◌, ◌||◌, true≢false, false≢true}
-use borrow.Author.Tests.{not_true, not_false}
+use borrow.Author.Tests.{not-true, not-false}
 
 -- after `if f(x)`: taken, and left
 pub holds : {r b : Bool} → r ≡ b → r ≡ true → b ≡ true
@@ -13,10 +13,10 @@ lacks e t = sym e ∙ t
 
 -- after `if !f(x)`: taken, and left
 pub refuted : {r b : Bool} → r ≡ b → not r ≡ true → b ≡ false
-refuted {r} e t = sym e ∙ not_true r t
+refuted {r} e t = sym e ∙ not-true r t
 
 pub passes : {r b : Bool} → r ≡ b → not r ≡ false → b ≡ true
-passes {r} e t = sym e ∙ not_false r t
+passes {r} e t = sym e ∙ not-false r t
 
 -- a conjunction that is true is true on both sides
 pub and_true : (a b : Bool) → (a && b) ≡ true → (a ≡ true) × (b ≡ true)

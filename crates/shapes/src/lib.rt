@@ -1,6 +1,8 @@
 // What is about no machine, stated and proved once for every crate: the shapes of a test loop, of a write loop and of an ordered
 // list of refusals, and what it means that a contract allows one answer only. Definitions in specs/, laws in proofs/, and two
 // accesses of slices that know no file and no machine.
+#![tactic(auto)]
+
 ghost use Rattle.std.specs.Prelude.{◌≡◌, ◌+◌, ◌≤◌, ◌<◌, length, get_or};
 ghost use Rattle.shapes.specs.Edit.{filled};
 

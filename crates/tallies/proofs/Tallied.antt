@@ -5,9 +5,9 @@ use mathlib.Core.Path.{◌≡◌}
 use mathlib.Core.List.{List}
 use mathlib.Core.Bool.{Bool, true, false}
 use mathlib.Core.Logic.{◌⊎◌, inl, inr}
-use native.Mathlib.Nat.{zero_add}
+use native.Mathlib.Nat.{zero-add}
 use native.Mathlib.Omega.{arith}
-use borrow.Author.Tests.{leb_true}
+use borrow.Author.Tests.{leb-true}
 use lib.ListN.{length, get_or}
 use Rattle.shapes.specs.Keep.{bit}
 use Rattle.shapes.proofs.First.{all_at}
@@ -22,7 +22,7 @@ use Rattle.tallies.specs.Tallies.{miss, can_take, raised, lowered}
 -- a number in use has its miss added
 pub raised_in : (s : List ℕ) (c : Case) (t : List ℕ) (f : ℕ) → f < numbers (head_of s) → f < length t → get_or (raised s c t) f 0 ≡ get_or t f 0 + miss s c f
 unfolding raised
-raised_in s c t f l k = rw zero_add at (edit_in (λ f old. old + miss s c f) 0 (numbers (head_of s)) t f l (omega arith))
+raised_in s c t f l k = rw zero-add at (edit_in (λ f old. old + miss s c f) 0 (numbers (head_of s)) t f l (omega arith))
 
 -- no other is changed
 pub raised_out : (s : List ℕ) (c : Case) (t : List ℕ) (f : ℕ) → numbers (head_of s) ≤ f → get_or (raised s c t) f 0 ≡ get_or t f 0
@@ -37,7 +37,7 @@ length_raised s c t = length_edit _ 0 _ t
 -- a number in use has its miss taken away
 pub lowered_in : (s : List ℕ) (c : Case) (t : List ℕ) (f : ℕ) → f < numbers (head_of s) → f < length t → get_or (lowered s c t) f 0 ≡ get_or t f 0 - miss s c f
 unfolding lowered
-lowered_in s c t f l k = rw zero_add at (edit_in (λ f old. old - miss s c f) 0 (numbers (head_of s)) t f l (omega arith))
+lowered_in s c t f l k = rw zero-add at (edit_in (λ f old. old - miss s c f) 0 (numbers (head_of s)) t f l (omega arith))
 
 -- no other is changed
 pub lowered_out : (s : List ℕ) (c : Case) (t : List ℕ) (f : ℕ) → numbers (head_of s) ≤ f → get_or (lowered s c t) f 0 ≡ get_or t f 0
@@ -82,4 +82,4 @@ pub can_take_at : (s t : List ℕ) (p f : ℕ) → can_take s t p ≡ true → f
 unfolding can_take
 can_take_at s t p f e l =
     let both = and_true _ _ (all_at _ (numbers (head_of s)) e f l) in
-    (leb_true _ _ both.0, leb_true _ _ both.1)
+    (leb-true _ _ both.0, leb-true _ _ both.1)

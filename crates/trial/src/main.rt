@@ -1,4 +1,5 @@
 // The trial program: carries out the script on standard input by the real calls, and prints a line for each operation.
+#![tactic(auto)]
 
 // The operations' codes and names.
 mod codes;

@@ -16,7 +16,7 @@ use machine::head::Head;
 use machine::replay::{is_expected, is_reproduced, mark_executed, symptoms_of};
 
 // What the held cases say together.
-#[derive(Drop)]
+#[derive(Clone, Copy)]
 pub enum Verdict {
     // No case fails.
     Clear,

@@ -15,20 +15,20 @@ use machine::replay::Replay;
 use shapes::{byte, put};
 
 // What is said about a case beside its steps: the position at which it stands in a record, 0 where it is handed over alone.
-#[derive(Drop)]
+#[derive(Clone, Copy)]
 pub struct About {
     pub position: usize,
 }
 
 // How many cases a record holds, or that its cases are broken.
-#[derive(Drop)]
+#[derive(Clone, Copy)]
 pub enum Counted {
     Cases(usize),
     Broken,
 }
 
 // What a record file holds: so many cases, or the refusal.
-#[derive(Drop)]
+#[derive(Clone, Copy)]
 pub enum RecordFile {
     Record(usize),
     Refused(Refusal),

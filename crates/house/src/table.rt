@@ -16,7 +16,7 @@ use shapes::byte;
 pub const FILE_CELLS_AT: usize = 6;
 
 // What a table file holds: a table with this head, or the refusal.
-#[derive(Drop)]
+#[derive(Clone, Copy)]
 pub enum TableFile {
     Table(Head),
     Refused(Refusal),

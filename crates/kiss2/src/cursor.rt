@@ -9,14 +9,14 @@ use crate::lines::{CellAt, CellLine, Widths, cell_at};
 use crate::words::{Directive, Word, WordAt, word_at};
 
 // The number of the next line, counted from 1, and the place at which it begins.
-#[derive(Drop)]
+#[derive(Clone, Copy)]
 pub struct Cursor {
     pub line: usize,
     pub place: usize,
 }
 
 // Which line is wanted.
-#[derive(Drop)]
+#[derive(Clone, Copy)]
 pub enum LineKind {
     Number(Directive),
     Reset,
@@ -25,7 +25,7 @@ pub enum LineKind {
 }
 
 // The line that was taken: a directive's value (0 of one without), what a cell's line says, or that it is not there.
-#[derive(Drop)]
+#[derive(Clone, Copy)]
 pub enum Line {
     Value(usize),
     Cell(CellLine),
@@ -33,7 +33,7 @@ pub enum Line {
 }
 
 // A line with the cursor after it.
-#[derive(Drop)]
+#[derive(Clone, Copy)]
 pub struct Taken {
     pub line: Line,
     pub cursor: Cursor,

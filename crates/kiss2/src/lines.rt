@@ -6,14 +6,14 @@ ghost use Rattle.kiss2.specs.Lines.{cell_line, LineIn, cell_at};
 use crate::words::{Word, WordAt, put_word, word_at};
 
 // How many input bits and how many output bits a line has.
-#[derive(Drop)]
+#[derive(Clone, Copy)]
 pub struct Widths {
     pub inputs: usize,
     pub outputs: usize,
 }
 
 // What a cell's line says.
-#[derive(Drop)]
+#[derive(Clone, Copy)]
 pub struct CellLine {
     pub input: usize,
     pub state: usize,
@@ -22,7 +22,7 @@ pub struct CellLine {
 }
 
 // The cell's line at a place and the place after it, or that there is none.
-#[derive(Drop)]
+#[derive(Clone, Copy)]
 pub enum CellAt {
     Cell(CellLine, usize),
     Nothing,

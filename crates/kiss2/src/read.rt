@@ -33,7 +33,7 @@ const LINES_LINE: usize = 3;
 const STATES_LINE: usize = 4;
 
 // What the first five lines say, and where the cell lines begin.
-#[derive(Drop)]
+#[derive(Clone, Copy)]
 pub struct Directives {
     pub widths: Widths,
     pub lines: usize,
@@ -42,7 +42,7 @@ pub struct Directives {
 }
 
 // The first five lines, or the first of them that is not of the form.
-#[derive(Drop)]
+#[derive(Clone, Copy)]
 pub enum HeadLines {
     Read(Directives),
     Broken(usize),
@@ -50,7 +50,7 @@ pub enum HeadLines {
 
 // The cell lines of a text: how many were taken, how many states they need, whether a second line for a cell stands after them, and where
 // that is.
-#[derive(Drop)]
+#[derive(Clone, Copy)]
 pub struct CellLines {
     pub count: usize,
     pub states: usize,
@@ -59,7 +59,7 @@ pub struct CellLines {
 }
 
 // A text that has no fault: the head of its table, the widths of its lines and where the cell lines begin.
-#[derive(Drop)]
+#[derive(Clone, Copy)]
 pub struct Found {
     pub head: Head,
     pub widths: Widths,
@@ -67,7 +67,7 @@ pub struct Found {
 }
 
 // What a text is found to be.
-#[derive(Drop)]
+#[derive(Clone, Copy)]
 pub enum Judged {
     Sound(Found),
     Refused(Refusal),

@@ -8,7 +8,7 @@ use machine::head::{Head, is_within};
 use shapes::byte;
 
 // The directives that have a number.
-#[derive(Drop)]
+#[derive(Clone, Copy)]
 pub enum Directive {
     // `.i`: the width of the input bits.
     Inputs,
@@ -21,7 +21,7 @@ pub enum Directive {
 }
 
 // What may stand at a place: a directive, which is a line, or a word of a cell's line; bits have a width.
-#[derive(Drop)]
+#[derive(Clone, Copy)]
 pub enum Word {
     Number(Directive),
     // `.r s0`
@@ -45,7 +45,7 @@ impl Word {
 }
 
 // The word at a place: its value and the place after it, or that there is none.
-#[derive(Drop)]
+#[derive(Clone, Copy)]
 pub enum WordAt {
     Value(usize, usize),
     Nothing,

@@ -19,7 +19,7 @@ use machine::head::Head;
 use shapes::byte;
 
 // How many cell lines a table has, and how many bytes they take.
-#[derive(Drop)]
+#[derive(Clone, Copy)]
 pub struct Measured {
     pub lines: usize,
     pub bytes: usize,

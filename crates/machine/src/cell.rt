@@ -14,7 +14,7 @@ pub const UNDEFINED: usize = 255;
 const NULL_OUTPUT: usize = 0;
 
 // Where a machine goes at a cell, and what it gives.
-#[derive(Drop)]
+#[derive(Clone, Copy)]
 pub struct Move {
     pub next: usize,
     pub output: usize,

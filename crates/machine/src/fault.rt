@@ -10,7 +10,7 @@ use crate::cell::{Move, completed_move, is_undefined};
 use crate::head::Head;
 
 // What a fault changes at its cell: the output, or the state it goes to.
-#[derive(Drop)]
+#[derive(Clone, Copy)]
 pub enum Kind {
     Output,
     Transfer,
@@ -18,7 +18,7 @@ pub enum Kind {
 
 // What a number stands for: one cell, and the output or the state that it gives there. Any number in use makes one, also a number that is no
 // fault because its value is the cell's own or its cell is undefined: `is_fault` tells.
-#[derive(Drop)]
+#[derive(Clone, Copy)]
 pub struct Fault {
     pub cell: usize,
     pub kind: Kind,
@@ -26,14 +26,14 @@ pub struct Fault {
 }
 
 // A fault, or that the number is not in use.
-#[derive(Drop)]
+#[derive(Clone, Copy)]
 pub enum MadeFault {
     Made(Fault),
     Nothing,
 }
 
 // The move that stands at one cell in place of the table's.
-#[derive(Drop)]
+#[derive(Clone, Copy)]
 pub struct Change {
     pub cell: usize,
     pub to: Move,
@@ -46,7 +46,7 @@ impl Fault {
     pub fn new(head: Head, number: usize) -> MadeFault
         requires { HeadIn head }
         ensures made { result ≡ made_fault head number }
-        ensures* limit { do ⌜ (← (⟦Fault::NUMBERS⟧).entry) ≡ numbers_most ⌝ }
+        ensures limit { Fault.NUMBERS ≡ numbers_most }
     {
         if head.numbers() <= number {
             return MadeFault::Nothing;

@@ -3,7 +3,7 @@ ghost use Rattle.std.specs.Prelude.{◌≡◌, ◌≤◌};
 ghost use Rattle.machine.specs.Limits.{cells_most, numbers_most};
 ghost use Rattle.machine.specs.Head.{within, made_head, HeadIn, cell_count, numbers};
 
-#[derive(Drop)]
+#[derive(Clone, Copy)]
 pub struct Head {
     pub states: usize,
     pub inputs: usize,
@@ -11,7 +11,7 @@ pub struct Head {
 }
 
 // A head, or that the three numbers make none.
-#[derive(Drop)]
+#[derive(Clone, Copy)]
 pub enum MadeHead {
     Made(Head),
     Nothing,
@@ -35,7 +35,7 @@ impl Head {
 
     pub fn new(states: usize, inputs: usize, outputs: usize) -> MadeHead
         ensures made { result ≡ made_head states inputs outputs }
-        ensures* limit { do ⌜ (← (⟦Head::CELLS⟧).entry) ≡ cells_most ⌝ }
+        ensures limit { Head.CELLS ≡ cells_most }
     {
         if !is_within(states, Head::STATES) {
             return MadeHead::Nothing;

@@ -20,7 +20,7 @@ use shapes::byte;
 const INITIAL: usize = 0;
 
 // Where a case's replay stands: its state, the step reached, the symptoms so far, and the first of them (STEPS if there is none).
-#[derive(Drop)]
+#[derive(Clone, Copy)]
 pub struct Replay {
     pub state: usize,
     pub step: usize,
@@ -29,7 +29,7 @@ pub struct Replay {
 }
 
 // How many steps of a case differ, and the first of them (64 if there is none).
-#[derive(Drop)]
+#[derive(Clone, Copy)]
 pub struct Symptoms {
     pub count: usize,
     pub first: usize,

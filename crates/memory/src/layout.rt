@@ -20,7 +20,7 @@ pub const SESSION: usize = PLACES_AT + Place::MOST * Place::SIZE;
 pub const TALLIES: usize = Fault::NUMBERS;
 
 // A place for a case: where it stands, and its length byte.
-#[derive(Drop)]
+#[derive(Clone, Copy)]
 pub struct Place {
     pub at: usize,
     pub steps: usize,

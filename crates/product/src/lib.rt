@@ -17,13 +17,13 @@ use machine::cell::UNDEFINED;
 use machine::head::Head;
 
 // Next state and output of a cell.
-#[derive(Drop)]
+#[derive(Clone, Copy)]
 struct Entry {
     next: u8,
     output: u8,
 }
 
-#[derive(Drop)]
+#[derive(Clone, Copy)]
 pub enum Product {
     FiveLitre,
     EightLitre,

@@ -13,7 +13,7 @@ use memory::form::check_form;
 use memory::layout::{PLACES_AT, Place, SESSION_CELLS_AT, head_of};
 
 // What an audit answers: every tally is true, or the lowest number whose is false, or the refusal.
-#[derive(Drop)]
+#[derive(Clone, Copy)]
 pub enum Audited {
     True,
     False(usize),

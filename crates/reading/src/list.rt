@@ -18,7 +18,7 @@ use memory::form::check_form;
 use memory::layout::{PLACES_AT, Place, SESSION_CELLS_AT, head_of};
 
 // What listing answers: the verdict and how many faults, or the refusal.
-#[derive(Drop)]
+#[derive(Clone, Copy)]
 pub enum Listing {
     Faults(Verdict, usize),
     Refused(Refusal),

@@ -17,7 +17,7 @@ use memory::layout::{PLACES_AT, Place, SESSION_CELLS_AT, head_of};
 use reading::list::is_some_failing;
 
 // What a place's symptoms are, or the refusal.
-#[derive(Drop)]
+#[derive(Clone, Copy)]
 pub enum Shown {
     Symptoms(Symptoms),
     Refused(Refusal),

@@ -136,7 +136,7 @@ edit_ext f g at n l m long below above inside =
 -- the length stays
 pub length_filled : (l : List ℕ) (at : ℕ) (v : List ℕ) → length (filled l at v) ≡ length l
 unfolding filled
-length_filled l at v = length_edit _ at (length v) l
+length_filled l at v = length_edit (λ i old. get_or v i 0) at (length v) l
 
 -- so a store and then a write keep it
 pub length_stored : (out l : List ℕ) (at x place : ℕ) (v : List ℕ) → l ≡ filled (set out at x) place v → length l ≡ length out

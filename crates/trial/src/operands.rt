@@ -16,7 +16,7 @@ const HIGHER_TWO: usize = HIGHER * HIGHER;
 pub const CUT: usize = 0;
 
 // A part of the script, from start up to end.
-#[derive(Drop)]
+#[derive(Clone, Copy)]
 struct Part {
     start: usize,
     end: usize,
@@ -24,7 +24,7 @@ struct Part {
 
 // The two numbers first, the two parts, the last number, and the place after them all. A number or part that the operation does not have
 // is 0 or empty.
-#[derive(Drop)]
+#[derive(Clone, Copy)]
 pub struct Operands {
     pub first: usize,
     pub second: usize,

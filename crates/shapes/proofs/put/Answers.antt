@@ -1,5 +1,5 @@
 use Rattle.std.proofs.Common.{◌≡◌, sym, arith, length}
-use Rattle.shapes.specs.Edit.{edit, filled}
+use Rattle.shapes.specs.Edit.{filled}
 use Rattle.shapes.proofs.Edit.{edit_none, edit_more}
 use Rattle.shapes.proofs.put.Goals as goal
 

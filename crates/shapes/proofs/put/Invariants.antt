@@ -1,5 +1,5 @@
-use Rattle.std.proofs.Common.{length, ◌-◌, ◌≡◌, ◌+◌, ◌≤◌, ◌<◌, get_or, ℕ, ◌*◌}
-use Rattle.shapes.specs.Edit.{edit, filled}
+use Rattle.std.proofs.Common.{length, ◌-◌, ◌≡◌, ◌≤◌, get_or}
+use Rattle.shapes.specs.Edit.{edit}
 use Rattle.shapes.proofs.put.Given as goal
 
 abbrev pub invariant-loop-i : goal.invariant-loop-i

@@ -1,5 +1,5 @@
 -- What the stores of a case make together: a whole place stored. Assumes nothing.
-use Prim.Native.Nat.{ℕ, ◌+◌, ◌-◌}
+use Prim.Native.Nat.{ℕ, ◌+◌}
 use mathlib.Core.Path.{◌≡◌, sym}
 use mathlib.Core.List.{List}
 use native.Mathlib.Nat.{add-zero}

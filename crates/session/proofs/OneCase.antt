@@ -1,5 +1,5 @@
 -- Changing one case moves no tally by more than one: every call is edits of each tally by at most one. Assumes nothing.
-use Prim.Native.Nat.{ℕ, ◌-◌}
+use Prim.Native.Nat.{ℕ}
 use mathlib.Core.List.{List}
 use native.Mathlib.Omega.{arith}
 use lib.ListN.{get_or}

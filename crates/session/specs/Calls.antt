@@ -1,6 +1,6 @@
 -- The calls that change a session (document 01, "Session memory", "Refusal numbers", Order): each is its rules in the paper's order, and what
 -- is done where none refuses. A refusal leaves both buffers as they were.
-use Rattle.std.specs.Prelude.{ℕ, ◌+◌, ◌-◌, List, [], ◌∷◌, ◌++◌, not, ltb, leb, length}
+use Rattle.std.specs.Prelude.{ℕ, ◌-◌, List, [], ◌∷◌, ◌++◌, not, ltb, leb, length}
 use Rattle.shapes.specs.Refusals.{Rule, when, Ruling, fine, refused, ruling}
 use Rattle.machine.specs.Case.{Case, as_case, no_case}
 use Rattle.house.specs.Table.{table_rules}

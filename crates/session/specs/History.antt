@@ -1,6 +1,6 @@
 -- Histories (demand 3): any list of calls after a start, on the memory by the definitions that the contracts cite, and on a model that never
 -- looks at memory: a table, and places each free or holding a case.
-use Rattle.std.specs.Prelude.{ℕ, zero, suc, ◌+◌, ◌-◌, ◌≤◌, ◌<◌, ◌≡◌, List, [], ◌∷◌, ◌++◌, Bool, true, false, cond, not, ◌&&◌, eqb, ltb, leb, length, get_or}
+use Rattle.std.specs.Prelude.{ℕ, zero, suc, ◌+◌, ◌≤◌, ◌<◌, ◌≡◌, List, [], ◌∷◌, ◌++◌, Bool, true, false, cond, not, ◌&&◌, eqb, ltb, leb, length, get_or}
 use Rattle.shapes.specs.First.{first}
 use Rattle.machine.specs.Cell.{SameCells}
 use Rattle.machine.specs.Case.{Case, good_case, all_good}

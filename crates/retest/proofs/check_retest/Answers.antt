@@ -1,5 +1,4 @@
 -- `retest::check_retest` meets its contract: at each `return` what was read and tested says what the rules say.
-use Rattle.std.proofs.Common.{true, false}
 use mathlib.Core.Path.{sym, ◌∙◌}
 use Rattle.house.proofs.Records.{rules_refuse, rules_pass}
 use Rattle.retest.proofs.Retests.{rules_first, rules_second, rules_position, rules_fine}

@@ -1,5 +1,3 @@
-use Rattle.std.proofs.Common.{true, false}
-use Prim.Native.Nat.{◌-◌}
 use Rattle.retest.proofs.Retests.{other_steps, compare_begins, compare_fails, compare_goes_on, compare_ends}
 use Rattle.retest.proofs.is_same.Goals as goal
 

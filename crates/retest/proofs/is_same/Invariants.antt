@@ -1,6 +1,6 @@
 -- `retest::is_same` meets its contract. The invariant: what is left to compare decides.
 use Prim.Native.Nat.{◌-◌}
-use Rattle.retest.proofs.Retests.{Comparing, other_steps, compare_begins, compare_fails, compare_goes_on, compare_ends}
+use Rattle.retest.proofs.Retests.{Comparing}
 use Rattle.retest.proofs.is_same.Given as goal
 
 abbrev pub invariant-loop-i : goal.invariant-loop-i

@@ -1,5 +1,3 @@
-use Rattle.std.proofs.Common.{true, false}
-use Prim.Native.Nat.{◌-◌}
 use Rattle.shapes.proofs.Tests.{holds, lacks}
 use Rattle.retest.proofs.Retests.{search_begins, search_fits, search_finds, search_goes_on, search_ends}
 use Rattle.retest.proofs.match_place.Goals as goal

@@ -2,7 +2,7 @@
 use Prim.Native.Nat.{◌-◌}
 use lib.ListN.{length}
 use Rattle.house.specs.Cases.{case_at}
-use Rattle.retest.proofs.Retests.{Searching, search_begins, search_fits, search_finds, search_goes_on, search_ends}
+use Rattle.retest.proofs.Retests.{Searching}
 use Rattle.retest.proofs.match_place.Given as goal
 
 abbrev pub invariant-loop-at : goal.invariant-loop-at

@@ -1,5 +1,4 @@
 -- `retest::pick` meets its contract: what the check and the two places say picks the part.
-use Rattle.std.proofs.Common.{true, false}
 use native.Mathlib.Omega.{arith}
 use mathlib.Core.Path.{sym, ◌∙◌}
 use Rattle.house.proofs.Forms.{checked_fine, checked_refused}

@@ -1,6 +1,6 @@
 -- `retest::place` meets its contract. The invariant: this is the place of the case at position i, which is whole.
 use Prim.Native.Nat.{◌-◌, ◌≤◌}
-use mathlib.Core.Path.{◌≡◌, refl}
+use mathlib.Core.Path.{◌≡◌}
 use lib.ListN.{length}
 use Rattle.house.specs.Cases.{case_end}
 use Rattle.house.specs.Walk.{place_of}

@@ -1,5 +1,5 @@
 -- Demand 3 for the calls that read: where a memory shows a model, list, verdict and audit are those of the model's cases taken afresh. Assumes nothing.
-use Prim.Native.Nat.{ℕ, ◌-◌}
+use Prim.Native.Nat.{ℕ}
 use mathlib.Core.Path.{◌≡◌, ◌∙◌}
 use mathlib.Core.List.{List}
 use Rattle.diagnosis.specs.Diagnosis.{list, some_fails, verdict_of}

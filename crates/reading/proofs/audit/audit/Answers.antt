@@ -1,12 +1,9 @@
 -- `reading::audit::audit` meets its contract: the first false tally is found below the count of the numbers, or none is.
-use Rattle.std.proofs.Common.{true, false}
 use mathlib.Core.Path.{sym, ◌∙◌}
 use Rattle.memory.proofs.Formed.{formed_table}
 use Rattle.tallies.proofs.Tallying.{count_told}
 use Rattle.memory.proofs.Known.{told_fine, rules_formed, session_table}
 use Rattle.reading.proofs.Listed.{audit_refused, audit_false, audit_true}
-use Rattle.machine.specs.Head.{numbers}
-use Rattle.memory.specs.Layout.{head_of}
 use Rattle.reading.proofs.audit.audit.Goals as goal
 
 pub returns-in-Refused : goal.returns-in-Refused

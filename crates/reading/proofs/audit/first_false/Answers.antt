@@ -1,5 +1,3 @@
-use Rattle.std.proofs.Common.{true, false}
-use Prim.Native.Nat.{◌-◌}
 use mathlib.Core.Path.{sym, ◌∙◌}
 use native.Mathlib.Omega.{arith}
 use Rattle.shapes.proofs.First.{first_turn, first_found, first_ended}
@@ -7,7 +5,6 @@ use Rattle.tallies.proofs.Tallying.{count_told}
 use Rattle.memory.proofs.Known.{session_table}
 use Rattle.reading.proofs.Listed.{false_begins, false_here, false_past}
 use Rattle.memory.proofs.Formed.{formed_table, formed_places}
-use Rattle.memory.specs.Layout.{head_of}
 use Rattle.reading.proofs.audit.first_false.Goals as goal
 
 pub numbers-numbers-requires : goal.numbers-numbers-requires

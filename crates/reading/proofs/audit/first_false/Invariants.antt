@@ -1,9 +1,9 @@
 -- `reading::audit::first_false` meets its contract. The invariant: the first false tally from here on is the first of all.
 use Prim.Native.Nat.{◌-◌, ◌≤◌}
-use mathlib.Core.Path.{◌≡◌, sym, ◌∙◌}
+use mathlib.Core.Path.{◌≡◌}
 use Rattle.shapes.specs.First.{first}
 use Rattle.reading.specs.Reads.{false_tally}
-use Rattle.reading.proofs.Listed.{false_at, false_begins, false_here, false_past}
+use Rattle.reading.proofs.Listed.{false_at}
 use Rattle.reading.proofs.audit.first_false.Given as goal
 
 abbrev pub invariant-loop-number : goal.invariant-loop-number

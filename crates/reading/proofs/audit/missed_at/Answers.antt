@@ -1,12 +1,10 @@
 -- `reading::audit::missed_at` meets its contract: the two parts of the session are the case of the place, and the answer is a number.
-use Rattle.std.proofs.Common.{true, false}
 use mathlib.Core.Path.{refl}
 use native.Mathlib.Omega.{arith}
 use Rattle.shapes.specs.Keep.{count}
 use Rattle.diagnosis.specs.Diagnosis.{tally}
 use Rattle.memory.proofs.Known.{case_runs, held_read, free_read, place_within, parts_case}
 use Rattle.reading.proofs.Listed.{missed_told}
-use Rattle.memory.specs.Layout.{head_of}
 use Rattle.reading.proofs.audit.missed_at.Goals as goal
 
 pub returns-then-steps-eq0-clause-value : goal.returns-then-steps-eq0-clause-value

@@ -1,8 +1,8 @@
 -- `reading::audit::tally_afresh` meets its contract. The invariant: the count is the tally of the cases held below the place.
 use Prim.Native.Nat.{◌-◌, ◌≤◌}
-use mathlib.Core.Path.{◌≡◌, refl}
+use mathlib.Core.Path.{◌≡◌}
 use Rattle.diagnosis.specs.Diagnosis.{tally}
-use Rattle.memory.specs.Layout.{places_most, head_of, cells_of, held_to, cases}
+use Rattle.memory.specs.Layout.{places_most, head_of, cells_of, held_to}
 use Rattle.reading.proofs.audit.tally_afresh.Given as goal
 
 abbrev pub invariant-loop-place : goal.invariant-loop-place

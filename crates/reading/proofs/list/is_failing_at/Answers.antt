@@ -1,9 +1,7 @@
 -- `reading::list::is_failing_at` meets its contract: the two parts of the session are the case of the place.
-use Rattle.std.proofs.Common.{false}
 use native.Mathlib.Omega.{arith}
 use Rattle.memory.proofs.Known.{case_runs, held_read, place_within, parts_case}
 use Rattle.reading.proofs.Listed.{failing_told}
-use Rattle.memory.specs.Layout.{head_of}
 use Rattle.reading.proofs.list.is_failing_at.Goals as goal
 
 pub slice_bounds-is_failing-end-2 : goal.slice_bounds-is_failing-end-2

@@ -1,7 +1,4 @@
-use Rattle.std.proofs.Common.{true}
-use Prim.Native.Nat.{◌-◌}
 use mathlib.Core.Path.{◌≡◌, refl, sym}
-use mathlib.Core.Bool.{false}
 use native.Mathlib.Omega.{arith}
 use Rattle.shapes.specs.Keep.{some}
 use Rattle.shapes.proofs.First.{all_at}

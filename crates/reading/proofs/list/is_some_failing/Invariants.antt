@@ -1,10 +1,10 @@
 -- `reading::list::is_some_failing` meets its contract. The invariant: none of the cases held below the place fails.
 use Prim.Native.Nat.{◌-◌, ◌≤◌}
-use mathlib.Core.Path.{◌≡◌, refl, sym}
+use mathlib.Core.Path.{◌≡◌}
 use mathlib.Core.Bool.{false}
 use Rattle.shapes.specs.Keep.{some}
-use Rattle.diagnosis.specs.Diagnosis.{fails, some_fails}
-use Rattle.memory.specs.Layout.{places_most, held_to, cases}
+use Rattle.diagnosis.specs.Diagnosis.{fails}
+use Rattle.memory.specs.Layout.{places_most, held_to}
 use Rattle.reading.specs.Reads.{machine_of}
 use Rattle.reading.proofs.list.is_some_failing.Given as goal
 

@@ -1,5 +1,4 @@
 -- `reading::list::list` meets its contract: each refusal is its rule's, and else what is written and answered is what the callees ensure.
-use Rattle.std.proofs.Common.{true, false}
 use mathlib.Core.Path.{sym, ◌∙◌}
 use Rattle.memory.proofs.Formed.{formed_table, formed_places}
 use Rattle.memory.proofs.Known.{told_fine, rules_formed}

@@ -1,10 +1,10 @@
 -- `reading::list::write_list` meets its contract. The invariant: the numbers passed that are listed are written, one after the other.
 use Prim.Native.Nat.{◌-◌, ◌≤◌}
-use Rattle.reading.proofs.Listed.{listed_at, listed_told, list_told, keep_few, WrittenTo, written_none, written_room, written_more, written_past}
+use Rattle.reading.proofs.Listed.{listed_at, WrittenTo}
 use Rattle.reading.proofs.list.write_list.Given as goal
 
 abbrev pub invariant-loop-number : goal.invariant-loop-number
-invariant-loop-number l = (l.number ≤ l.numbers) × (WrittenTo (listed_at l.session l.tallies) l.fn.out l.number l.out l.count)
+invariant-loop-number l = (l.number ≤ l.end) × (WrittenTo (listed_at l.session l.tallies) l.fn.out l.number l.out l.count)
 
 abbrev pub decreases-loop-number : goal.decreases-loop-number
-decreases-loop-number l = l.numbers - l.number
+decreases-loop-number l = l.end - l.number

@@ -1,6 +1,6 @@
 -- "Longer buffers, those for answers too, are allowed and their tails stay untouched": what the calls that read write is inside what the answer
 -- needs, and a call that is refused writes nothing. Assumes nothing.
-use Prim.Native.Nat.{ℕ, ◌+◌}
+use Prim.Native.Nat.{ℕ}
 use mathlib.Core.Path.{◌≡◌, refl}
 use mathlib.Core.List.{List, ◌++◌}
 use native.Mathlib.Omega.{arith}

@@ -1,7 +1,7 @@
 -- What a save, symptoms, a conflict set and candidates say of a well-formed session, and from the answer alone. Each call is a choice on its ruling, so an
 -- answer that is no refusal says that no rule holds, and what was answered and written.
 -- Assumes nothing.
-use Prim.Native.Nat.{ℕ, ◌+◌, ◌≤◌, ◌<◌}
+use Prim.Native.Nat.{ℕ, ◌≤◌, ◌<◌}
 use mathlib.Core.Path.{◌≡◌, refl}
 use mathlib.Core.Bool.{true}
 use mathlib.Core.List.{List, [], ◌∷◌, ◌++◌}

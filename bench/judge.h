@@ -1,8 +1,9 @@
 /* The judge: does the board's table, with one change, give every output that was seen?
  *
- * The function stands in target/staticlib/libjudge.a, which `rt staticlib judge` writes: x86-64 code that needs no library. Proved of its source
- * (crates/judge; docs/READING.md tells where) are its answer for any bytes, lengths and number, that it reads nothing outside the two slices,
- * and that it ends. That this header declares it rightly, and that NULL with length 0 works, is tested (tests/harness).
+ * The function stands in target/staticlib/libjudge.a, which bench/build writes: x86-64 code that needs no library. Proved of its source
+ * (crates/judge_c, over crates/judge; docs/READING.md tells where) are its answer for any bytes, lengths and number, that it reads nothing
+ * outside the two slices, and that it ends. That this header declares it rightly, and that NULL with length 0 works, is tested
+ * (tests/harness).
  */
 #ifndef JUDGE_H
 #define JUDGE_H

@@ -4,7 +4,7 @@ import subprocess
 
 ROOT = pathlib.Path(__file__).resolve().parent.parent
 SECOND = ROOT / "target/second/release/second"
-TRIAL = ROOT / "target/bin/trial"
+TRIAL = ROOT / "crates/trial/out/trial"  # `rt ci` leaves it there, and `rt run` in crates/trial
 
 
 def build_second():

@@ -1,4 +1,4 @@
-// The judge (document 01, "The C side"): the one function that the bench harness, a C program, calls. bench/judge.h declares it.
+// The judge (document 01, "The C side"). The bench harness, a C program, calls it by the crate judge_c, which exports it under the same clauses.
 #![tactic(auto)]
 
 ghost use Rattle.std.specs.Prelude.{◌≡◌, true, ◌<◌};
@@ -90,8 +90,7 @@ fn judge_record(table: &[u8], head: Head, file: &[u8], number: u32) -> u32
 }
 
 // 1 if the number's machine reproduces the record, 0 if not, else 16 plus the refusal.
-#[unsafe(no_mangle)]
-pub extern "C" fn judge(table: &[u8], record: &[u8], number: u32) -> u32
+pub fn judge(table: &[u8], record: &[u8], number: u32) -> u32
     ensures { result ≡ judgement table.now «record».now number }
 {
     let read = read_table(table);

@@ -10,12 +10,14 @@ ghost use Rattle.memory.specs.Layout.{session_size, tallies_size, head_of};
 use diagnosis::Verdict;
 use house::file::{HIGHER, REST};
 use house::refusal::{Answer, Refusal};
+use input::read_full;
 use machine::fault::{Fault, Kind};
 use machine::head::Head;
 use memory::layout::{SESSION, TALLIES, head_of};
 use reading::list::{Listing, list};
 use session::calls::{load, start};
 use shapes::byte;
+use std::io;
 
 // The most bytes that an input has.
 const MOST: usize = 16384;
@@ -50,81 +52,90 @@ fn least(a: usize, b: usize) -> usize
 }
 
 // Prints a blank and a number.
-fn print_number(number: usize) {
-    io::write_all(1, b" ");
-    io::print_decimal(1, number as u64);
+fn print_number(rt: &impl Print, number: usize) -> io::Result<()> {
+    print!(rt; " {number}")
 }
 
-fn end_line() {
-    io::write_all(1, b"\n");
+fn end_line(rt: &impl Print) -> io::Result<()> {
+    rt.print("\n")
 }
 
-fn print_refusal(refusal: Refusal) {
-    io::write_all(1, b"REFUSED");
-    print_number(refusal.number());
-    end_line();
+fn print_refusal(rt: &impl Print, refusal: Refusal) -> io::Result<()> {
+    rt.print("REFUSED")?;
+    print_number(rt, refusal.number())?;
+    end_line(rt)
 }
 
-fn print_verdict(verdict: Verdict) {
+fn print_verdict(rt: &impl Print, verdict: Verdict) -> io::Result<()> {
     match verdict {
-        Verdict::Clear => io::write_all(1, b"CLEAR"),
-        Verdict::Found => io::write_all(1, b"FOUND"),
-        Verdict::None => io::write_all(1, b"NONE"),
-    };
+        Verdict::Clear => rt.print("CLEAR"),
+        Verdict::Found => rt.print("FOUND"),
+        Verdict::None => rt.print("NONE"),
+    }
 }
 
-fn print_kind(kind: Kind) {
+fn print_kind(rt: &impl Print, kind: Kind) -> io::Result<()> {
     match kind {
-        Kind::Output => io::write_all(1, b" O"),
-        Kind::Transfer => io::write_all(1, b" T"),
-    };
+        Kind::Output => rt.print(" O"),
+        Kind::Transfer => rt.print(" T"),
+    }
 }
 
 // Prints a number's fault: its state, input, kind and wrong value.
-fn print_fault(head: Head, number: usize)
+fn print_fault(rt: &impl Print, head: Head, number: usize) -> io::Result<()>
     requires head_in { HeadIn head }
     requires number_bound { number < numbers head }
 {
     let fault = Fault::numbered(head, number);
     let kind = fault.kind;
-    io::print_decimal(1, number as u64);
-    print_number(fault.cell / head.inputs);
-    print_number(fault.cell % head.inputs);
-    print_kind(kind);
-    print_number(fault.value);
-    end_line();
+    rt.print(number)?;
+    print_number(rt, fault.cell / head.inputs)?;
+    print_number(rt, fault.cell % head.inputs)?;
+    print_kind(rt, kind)?;
+    print_number(rt, fault.value)?;
+    end_line(rt)
 }
 
-fn print_faults(head: Head, faults: &[u16])
+fn print_faults(rt: &impl Print, head: Head, faults: &[u16]) -> io::Result<()>
     requires head_in { HeadIn head }
     requires by_index { (i : ℕ) → i < length faults.now → get_or faults.now i 0 < numbers head }
 {
-    let mut i = 0;
-    while i < faults.len() {
-        print_fault(head, faults[i] as usize);
-        i += 1;
+    for number in faults {
+        print_fault(rt, head, *number as usize)?;
     }
+    Ok(())
 }
 
 // Prints a list of the faults of a session's table.
-fn print_list(session: &[u8], verdict: Verdict, count: usize, faults: &[u16])
+fn print_list(
+    rt: &impl Print,
+    session: &[u8],
+    verdict: Verdict,
+    count: usize,
+    faults: &[u16],
+) -> io::Result<()>
     requires session_size_in_bounds { session_size ≤ length session.now }
     requires head_in { HeadIn (head_of session.now) }
     requires count_in_bounds { count ≤ length faults.now }
     requires by_index { (i : ℕ) → i < count → get_or faults.now i 0 < numbers (head_of session.now) }
 {
-    print_verdict(verdict);
-    print_number(count);
-    end_line();
-    print_faults(head_of(session), &faults[0..count]);
+    print_verdict(rt, verdict)?;
+    print_number(rt, count)?;
+    end_line(rt)?;
+    print_faults(rt, head_of(session), &faults[0..count])
 }
 
 // Lists the faults of a session by way of `numbers`.
-fn show_list(session: &[u8], tallies: &[u16], numbers: &mut [u16]) {
+fn show_list(
+    rt: &impl Print,
+    session: &[u8],
+    tallies: &[u16],
+    numbers: &mut [u16],
+) -> io::Result<()> {
     let listing = list(session, tallies, numbers);
     match listing {
-        Listing::Faults(verdict, count) => print_list(session, verdict, count, numbers),
-        Listing::Refused(refusal) => print_refusal(refusal),
+        Listing::Faults(verdict, count) => print_list(rt, session, verdict, count, numbers),
+        Listing::Refused(refusal) => print_refusal(rt, refusal),
     }
 }
 
@@ -140,35 +151,44 @@ fn table_end(input: &[u8]) -> usize
 }
 
 // Lists what a table file and the record after it come to.
-fn list_input(input: &[u8], session: &mut [u8], tallies: &mut [u16], numbers: &mut [u16]) {
+fn list_input(
+    rt: &impl Print,
+    input: &[u8],
+    session: &mut [u8],
+    tallies: &mut [u16],
+    numbers: &mut [u16],
+) -> io::Result<()> {
     let end = table_end(input);
     let started = start(session, tallies, &input[0..end]);
     if let Answer::Refused(refusal) = started {
-        print_refusal(refusal);
-        return;
+        return print_refusal(rt, refusal);
     }
     let loaded = load(session, tallies, &input[end..input.len()]);
     if let Answer::Refused(refusal) = loaded {
-        print_refusal(refusal);
-        return;
+        return print_refusal(rt, refusal);
     }
-    show_list(session, tallies, numbers);
+    show_list(rt, session, tallies, numbers)
 }
 
 // Reads the input, and refuses a longer one.
-fn run(room: &mut [u8], session: &mut [u8], tallies: &mut [u16], numbers: &mut [u16]) {
-    let count = io::read_full(0, room);
+fn run(
+    rt: &(impl Input + Print),
+    room: &mut [u8],
+    session: &mut [u8],
+    tallies: &mut [u16],
+    numbers: &mut [u16],
+) -> io::Result<()> {
+    let count = read_full(&mut rt.reader(), room)?;
     if MOST < count {
-        print_refusal(Refusal::Length);
-        return;
+        return print_refusal(rt, Refusal::Length);
     }
-    list_input(&room[0..count], session, tallies, numbers);
+    list_input(rt, &room[0..count], session, tallies, numbers)
 }
 
-fn main() {
+fn main(rt: HostRuntime) -> io::Result<()> {
     let mut room = input_room();
     let mut session = session_room();
     let mut tallies = numbers_room();
     let mut numbers = numbers_room();
-    run(&mut room, &mut session, &mut tallies, &mut numbers);
+    run(&rt, &mut room, &mut session, &mut tallies, &mut numbers)
 }

@@ -51,10 +51,8 @@ fn summed(sum: usize, next: usize) -> usize
 // The sum of bytes.
 pub fn sum_bytes(bytes: &[u8]) -> usize {
     let mut sum = 1;
-    let mut i = 0;
-    while i < bytes.len() {
+    for i in 0..bytes.len() {
         sum = summed(sum, byte(bytes, i));
-        i += 1;
     }
     sum
 }
@@ -62,10 +60,8 @@ pub fn sum_bytes(bytes: &[u8]) -> usize {
 // The sum of numbers.
 pub fn sum_numbers(numbers: &[u16]) -> usize {
     let mut sum = 1;
-    let mut i = 0;
-    while i < numbers.len() {
+    for i in 0..numbers.len() {
         sum = summed(sum, entry(numbers, i));
-        i += 1;
     }
     sum
 }

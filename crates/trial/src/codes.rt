@@ -2,6 +2,7 @@
 ghost use Rattle.std.specs.Prelude.{◌*◌, ◌≤◌, ◌<◌, length};
 
 use crate::print::put_text;
+use std::io;
 
 pub const LEND: usize = 0;
 
@@ -61,19 +62,20 @@ fn name_end(names: &[u8], start: usize) -> usize
 }
 
 // Puts the name of a code, one of some names by rising code.
-fn put_name_of(out: &mut [u8], names: &[u8], code: usize) -> usize
+fn put_name_of(rt: &impl Print, out: &mut [u8], names: &[u8], code: usize) -> io::Result<usize>
     requires { 11 * code ≤ length names.now }
 {
     let start = WIDTH * code;
     let end = name_end(names, start);
-    put_text(out, 0, &names[start..end])
+    put_text(rt, out, 0, &names[start..end])
 }
 
 // Puts the name of a code.
-pub fn put_name(out: &mut [u8], code: usize) -> usize
+pub fn put_name(rt: &impl Print, out: &mut [u8], code: usize) -> io::Result<usize>
     requires { code < 18 }
 {
     put_name_of(
+        rt,
         out,
         b"LEND       START      ADD        AMEND      WITHDRAW   LOAD       SAVE       LIST       AUDIT      SYMPTOMS   CONFLICT   CANDIDATES POKE       TALLY      SUM        TABLE      RETEST     JUDGE      ",
         code,

@@ -25,14 +25,19 @@ use crate::operands::{Operands, least, operands_at};
 use crate::others::{act, act_on_files};
 use crate::print::{end_line, print_stop, put_answer};
 use crate::reads::read;
+use input::read_full;
 use memory::layout::{SESSION, TALLIES};
 use shapes::byte;
+use std::io;
 
 // The most bytes that a script has.
 const MOST: usize = 65536;
 
 // Room for a script and one byte more, which shows that it is too long.
 const ROOM: usize = MOST + 1;
+
+// How much of a line is put together before it is written.
+const LINE: usize = 4096;
 
 fn script_room() -> [u8; ROOM]
     ensures { ROOM ≡ length result }
@@ -42,6 +47,7 @@ fn script_room() -> [u8; ROOM]
 
 // Carries out an operation of a session in the bytes and tallies that are lent to the call.
 fn call(
+    rt: &impl Print,
     out: &mut [u8],
     at: usize,
     code: usize,
@@ -49,12 +55,13 @@ fn call(
     operands: Operands,
     session: &mut [u8],
     tallies: &mut [u16],
-) -> usize
+) -> io::Result<usize>
     requires start_le_end { (operands.start ≤ operands.end) × (operands.end ≤ length script.now) }
     requires start2_le_end2 { (operands.start2 ≤ operands.end2) × (operands.end2 ≤ length script.now) }
 {
     if SAVE <= code {
         return read(
+            rt,
             out,
             at,
             code,
@@ -76,11 +83,12 @@ fn call(
         session,
         tallies,
     );
-    put_answer(out, at, answer)
+    put_answer(rt, out, at, answer)
 }
 
 // Carries out an operation with its operands, and puts what follows its name in the line.
 fn carry_out(
+    rt: &impl Print,
     out: &mut [u8],
     at: usize,
     code: usize,
@@ -90,7 +98,7 @@ fn carry_out(
     tallied: usize,
     session: &mut [u8],
     tallies: &mut [u16],
-) -> usize
+) -> io::Result<usize>
     requires start_le_end { (operands.start ≤ operands.end) × (operands.end ≤ length script.now) }
     requires start2_le_end2 { (operands.start2 ≤ operands.end2) × (operands.end2 ≤ length script.now) }
     requires last_bound { operands.last < 4294967296 }
@@ -99,6 +107,7 @@ fn carry_out(
         let s = least(lent, session.len());
         let t = least(tallied, tallies.len());
         return call(
+            rt,
             out,
             at,
             code,
@@ -110,6 +119,7 @@ fn carry_out(
     }
     if code < TABLE {
         return act(
+            rt,
             out,
             at,
             code,
@@ -124,6 +134,7 @@ fn carry_out(
     let from2 = operands.start2;
     let to2 = operands.end2;
     act_on_files(
+        rt,
         out,
         at,
         code,
@@ -137,6 +148,7 @@ fn carry_out(
 
 // Carries out an operation, with so many bytes and tallies lent to a call, and prints its line.
 fn turn(
+    rt: &impl Print,
     out: &mut [u8],
     code: usize,
     script: &[u8],
@@ -145,21 +157,27 @@ fn turn(
     tallied: usize,
     session: &mut [u8],
     tallies: &mut [u16],
-)
+) -> io::Result<()>
     requires code_bound { code < 18 }
     requires start_le_end { (operands.start ≤ operands.end) × (operands.end ≤ length script.now) }
     requires start2_le_end2 { (operands.start2 ≤ operands.end2) × (operands.end2 ≤ length script.now) }
     requires last_bound { operands.last < 4294967296 }
 {
-    let at = put_name(out, code);
+    let at = put_name(rt, out, code)?;
     let end = carry_out(
-        out, at, code, script, operands, lent, tallied, session, tallies,
-    );
-    end_line(out, end);
+        rt, out, at, code, script, operands, lent, tallied, session, tallies,
+    )?;
+    end_line(rt, out, end)
 }
 
 // Carries out a script's operations in order.
-fn run(script: &[u8], session: &mut [u8], tallies: &mut [u16], out: &mut [u8]) {
+fn run(
+    rt: &impl Print,
+    script: &[u8],
+    session: &mut [u8],
+    tallies: &mut [u16],
+    out: &mut [u8],
+) -> io::Result<()> {
     let mut lent = SESSION;
     let mut tallied = TALLIES;
     let mut at = 0;
@@ -168,36 +186,42 @@ fn run(script: &[u8], session: &mut [u8], tallies: &mut [u16], out: &mut [u8]) {
         let operands = operands_at(script, at + 1, code);
         let next = operands.next;
         if next <= at {
-            print_stop(out, at);
-            return;
+            return print_stop(rt, out, at);
         }
         if CODES <= code {
-            print_stop(out, at);
-            return;
+            return print_stop(rt, out, at);
         }
-        turn(out, code, script, operands, lent, tallied, session, tallies);
+        turn(
+            rt, out, code, script, operands, lent, tallied, session, tallies,
+        )?;
         if code == LEND {
             lent = least(operands.first, BYTES);
             tallied = least(operands.second, NUMBERS);
         }
         at = next;
     }
+    Ok(())
 }
 
 // Reads the script and carries it out.
-fn run_input(room: &mut [u8], session: &mut [u8], tallies: &mut [u16], out: &mut [u8]) {
-    let count = io::read_full(0, room);
+fn run_input(
+    rt: &(impl Input + Print),
+    room: &mut [u8],
+    session: &mut [u8],
+    tallies: &mut [u16],
+    out: &mut [u8],
+) -> io::Result<()> {
+    let count = read_full(&mut rt.reader(), room)?;
     if MOST < count {
-        print_stop(out, MOST);
-        return;
+        return print_stop(rt, out, MOST);
     }
-    run(&room[0..count], session, tallies, out);
+    run(rt, &room[0..count], session, tallies, out)
 }
 
-fn main() {
+fn main(rt: HostRuntime) -> io::Result<()> {
     let mut room = script_room();
     let mut session = bytes_room();
     let mut tallies = numbers_room();
-    let mut out = io::buffer();
-    run_input(&mut room, &mut session, &mut tallies, &mut out);
+    let mut out = [0; LINE];
+    run_input(&rt, &mut room, &mut session, &mut tallies, &mut out)
 }

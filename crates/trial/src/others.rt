@@ -12,6 +12,7 @@ use judge::judge;
 use product::{eight_litre, five_litre};
 use retest::{pick, pick_refusal};
 use shapes::byte;
+use std::io;
 
 // Stores a byte in the session, if it has the place.
 fn poke(session: &mut [u8], place: usize, value: usize) {
@@ -31,6 +32,7 @@ fn store_tally(tallies: &mut [u16], place: usize, value: usize) {
 
 // Carries out the operation of a code on the memory with two numbers.
 pub fn act(
+    rt: &impl Print,
     out: &mut [u8],
     at: usize,
     code: usize,
@@ -38,19 +40,19 @@ pub fn act(
     tallies: &mut [u16],
     first: usize,
     second: usize,
-) -> usize {
+) -> io::Result<usize> {
     if code == LEND {
-        return put_two(out, at, least(first, BYTES), least(second, NUMBERS));
+        return put_two(rt, out, at, least(first, BYTES), least(second, NUMBERS));
     }
     if code == POKE {
         poke(session, first, second);
-        return put_two(out, at, first, second);
+        return put_two(rt, out, at, first, second);
     }
     if code == TALLY {
         store_tally(tallies, first, second);
-        return put_two(out, at, first, second);
+        return put_two(rt, out, at, first, second);
     }
-    put_two(out, at, sum_bytes(session), sum_numbers(tallies))
+    put_two(rt, out, at, sum_bytes(session), sum_numbers(tallies))
 }
 
 // Writes the built-in table that a number names.
@@ -62,59 +64,79 @@ fn product(which: usize, out: &mut [u8]) -> Answer {
 }
 
 // Writes it by way of a whole answer buffer, of which so much is lent.
-fn product_in(out: &mut [u8], at: usize, which: usize, room: usize, bytes: &mut [u8]) -> usize {
+fn product_in(
+    rt: &impl Print,
+    out: &mut [u8],
+    at: usize,
+    which: usize,
+    room: usize,
+    bytes: &mut [u8],
+) -> io::Result<usize> {
     let most = least(room, bytes.len());
     let answer = product(which, &mut bytes[0..most]);
-    put_written(out, at, answer, bytes)
+    put_written(rt, out, at, answer, bytes)
 }
 
-fn run_table(out: &mut [u8], at: usize, which: usize, room: usize) -> usize {
+fn run_table(
+    rt: &impl Print,
+    out: &mut [u8],
+    at: usize,
+    which: usize,
+    room: usize,
+) -> io::Result<usize> {
     let mut bytes = bytes_room();
-    product_in(out, at, which, room, &mut bytes)
+    product_in(rt, out, at, which, room, &mut bytes)
 }
 
 // Puts each byte as a number.
-fn put_bytes(out: &mut [u8], at: usize, bytes: &[u8]) -> usize {
+fn put_bytes(rt: &impl Print, out: &mut [u8], at: usize, bytes: &[u8]) -> io::Result<usize> {
     let mut end = at;
-    let mut i = 0;
-    while i < bytes.len() {
-        end = put_number(out, end, byte(bytes, i));
-        i += 1;
+    for i in 0..bytes.len() {
+        end = put_number(rt, out, end, byte(bytes, i))?;
     }
-    end
+    Ok(end)
 }
 
 // Puts the bytes of a case.
-fn put_case(out: &mut [u8], at: usize, bytes: &[u8]) -> usize {
-    let end = put_word(out, at, b"OK");
-    put_bytes(out, end, bytes)
+fn put_case(rt: &impl Print, out: &mut [u8], at: usize, bytes: &[u8]) -> io::Result<usize> {
+    let end = put_word(rt, out, at, b"OK")?;
+    put_bytes(rt, out, end, bytes)
 }
 
 // Puts the case picked, or why there is none.
 fn put_pick<'a>(
+    rt: &impl Print,
     out: &mut [u8],
     at: usize,
     first: &'a [u8],
     retest: &'a [u8],
     position: usize,
-) -> usize {
+) -> io::Result<usize> {
     let part = pick(first, retest, position);
     if part.len() == 0 {
-        return put_no(out, at, pick_refusal(first, retest, position), 0);
+        return put_no(rt, out, at, pick_refusal(first, retest, position), 0);
     }
-    put_case(out, at, part)
+    put_case(rt, out, at, part)
 }
 
 // Puts what the judge answers.
-fn put_judged(out: &mut [u8], at: usize, table: &[u8], cases: &[u8], number: usize) -> usize
+fn put_judged(
+    rt: &impl Print,
+    out: &mut [u8],
+    at: usize,
+    table: &[u8],
+    cases: &[u8],
+    number: usize,
+) -> io::Result<usize>
     requires { number < 4294967296 }
 {
     let value = judge(table, cases, number as u32);
-    put_both(out, at, b"OK", value as usize)
+    put_both(rt, out, at, b"OK", value as usize)
 }
 
 // Carries out the operation of a code on files: two numbers, two parts of the script, or those and a number.
 pub fn act_on_files<'a>(
+    rt: &impl Print,
     out: &mut [u8],
     at: usize,
     code: usize,
@@ -123,14 +145,14 @@ pub fn act_on_files<'a>(
     one: &'a [u8],
     two: &'a [u8],
     last: usize,
-) -> usize
+) -> io::Result<usize>
     requires { last < 4294967296 }
 {
     if code == TABLE {
-        return run_table(out, at, first, second);
+        return run_table(rt, out, at, first, second);
     }
     if code == RETEST {
-        return put_pick(out, at, one, two, last);
+        return put_pick(rt, out, at, one, two, last);
     }
-    put_judged(out, at, one, two, last)
+    put_judged(rt, out, at, one, two, last)
 }

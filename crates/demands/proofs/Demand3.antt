@@ -237,7 +237,7 @@ right_table p out s t room session_room tallies_room =
     record {
       bytes = table_bytes (product_head p);
       left = filled out 0 file;
-      table_written_law = built_in_written p out room;
+      table_written = built_in_written p out room;
       all_of_it = refl;
       start_done = rw again done;
       shows_head = rw again shown.0;

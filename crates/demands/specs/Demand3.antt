@@ -77,7 +77,7 @@ session_left (after a s t) = s
 pub record RightTable (p : Product) (out s t : List ℕ) : Type 0 where
   pub bytes : ℕ
   pub left : List ℕ
-  pub table_written_law : written p out ≡ wrote (Done bytes) left
+  pub table_written : written p out ≡ wrote (Done bytes) left
   pub all_of_it : bytes ≡ table_bytes (product_head p)
   pub start_done : answer_of (start_call s t (take bytes left)) ≡ Done 0
   pub shows_head : head_of (session_left (start_call s t (take bytes left))) ≡ product_head p

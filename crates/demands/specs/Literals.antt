@@ -70,7 +70,7 @@ pub record Literals : Type 0 where
   pub five_size : table_bytes (product_head FiveLitre) ≡ 30
   pub eight_size : table_bytes (product_head EightLitre) ≡ 36
   -- and these are the bytes
-  pub five_file_law : table_file (product_head FiveLitre) (product_cells FiveLitre) ≡ five_bytes
+  pub five_file : table_file (product_head FiveLitre) (product_cells FiveLitre) ≡ five_bytes
   pub eight_file : table_file (product_head EightLitre) (product_cells EightLitre) ≡ eight_bytes
   -- a record has "a length byte L .., L inputs, L observed outputs", and these too are the paper's bytes
   pub record_file_law : record_file (case_p5 ∷ []) ≡ record_bytes

@@ -158,7 +158,7 @@ change_gives : (h : Head) (cells : List ℕ) (x : Fault) → TableIn h cells →
 unfolding change_of specified completed bad_cell
 change_gives h cells x t k =
     altered_gives h x.kind x.value _ k.value_in
-    (gives h.states h.outputs (x.cell / h.inputs) (next_byte cells x.cell) (output_byte cells x.cell) (undefined cells x.cell)
+    (gives h.states h.outputs _ (next_byte cells x.cell) (output_byte cells x.cell) (undefined cells x.cell)
     (sound_cell h cells t x.cell k.cell_in) t.head.some_outputs)
 
 -- both bytes of a fault's cell are among the table's
@@ -213,7 +213,7 @@ completed_table h cells x t k e =
 pub mutant_elsewhere : (cells : List ℕ) (x : Fault) (i : ℕ) → (i ≡ byte_of x.kind x.cell → ⊥)
     → get_or (mutant cells x) i 0 ≡ get_or cells i 0
 unfolding mutant
-mutant_elsewhere cells x i other = get_or-set_other cells (byte_of x.kind x.cell) i x.value 0 other
+mutant_elsewhere cells x i other = get_or-set_other cells (byte_of x.kind x.cell) i _ 0 other
 
 -- so the machine of a number on a defined cell is that of the table with its one byte changed
 pub changed_mutant : (h : Head) (cells : List ℕ) (f : ℕ) → TableIn h cells → f < numbers h → undefined cells (fault_of h f).cell ≡ false

@@ -9,6 +9,7 @@ use mathlib.Core.List.{List, []}
 use native.Mathlib.Omega.{arith}
 use borrow.Author.Tests.{lt-leb, leb-true}
 use lib.ListN.{length}
+use Rattle.std.specs.Prelude.{Ok}
 use Rattle.shapes.specs.Keep.{bit, has}
 use Rattle.shapes.specs.Refusals.{Rule, Ruling, fine, refused, ruling, AllFalse}
 use Rattle.shapes.proofs.Refusals.{fine_when, ruling_join_fine, ruling_past, ruling_end}
@@ -17,12 +18,11 @@ use Rattle.machine.specs.Head.{numbers}
 use Rattle.machine.specs.Fault.{is_fault}
 use Rattle.machine.specs.Case.{all_good}
 use Rattle.machine.proofs.Mutants.{fault_exactly}
+use Rattle.house.specs.Refusal.{ruled}
 use Rattle.house.specs.Table.{head_in, cells_in, table_rules, table_read}
-use Rattle.house.specs.Cases.{record_rules, record_or, record_read, cases_in, alone, cases_rules}
+use Rattle.house.specs.Cases.{record_rules, record_read, cases_in, alone, cases_rules}
 use Rattle.house.specs.declared.refusal.Refusal.{Refusal}
 use Rattle.house.specs.declared.refusal.Refusal.TheVariants.{Number}
-use Rattle.house.specs.declared.refusal.Answer.TheVariants.{Done}
-use Rattle.house.specs.declared.table.TableFile.TheVariants.{Table}
 use Rattle.house.proofs.Tables.{table_taken}
 use Rattle.house.proofs.Against.{cases_fine}
 use Rattle.diagnosis.specs.Diagnosis.{list}
@@ -42,7 +42,7 @@ use Rattle.demands.proofs.Demand2.{Sound, suspect_exactly, session_sound}
 use Rattle.demands.proofs.Demand3.{start_table}
 
 -- a file that is read as a record is refused by no rule
-is_record_law : (v : Ruling Refusal) (n : ℕ) → is_record (record_or v n) ≡ true → v ≡ fine
+is_record_law : (v : Ruling Refusal) (n : ℕ) → is_record (ruled v n) ≡ true → v ≡ fine
 is_record_law fine n e = refl
 is_record_law (refused r) n e = absurd (false≢true e)
 
@@ -62,7 +62,7 @@ load_taken table file e =
     record { record_fine = is_record_law (ruling (record_rules file)) _ a.0; good = b.0; few = omega arith }
 
 -- so no rule of the judge holds at a number in use
-judge_fine : (table file : List ℕ) → table_read table ≡ Table (head_in table) → Loaded table file → (f : ℕ) → f < numbers (head_in table)
+judge_fine : (table file : List ℕ) → table_read table ≡ Ok (head_in table) → Loaded table file → (f : ℕ) → f < numbers (head_in table)
     → AllFalse (judge_rules table file f)
 unfolding judge_rules
 judge_fine table file read k f l =
@@ -91,13 +91,13 @@ taken_shows : (c : Call) (s t : List ℕ) (m : Model) → Shows s t m → takes 
 unfolding step
 taken_shows c s t m k taken = rw taken at (call_shows c s t m k)
 
--- so a load that answered Done right after a start took the record, and what the session then holds has the list of the record's cases against the table
+-- so a load that answered Ok right after a start took the record, and what the session then holds has the list of the record's cases against the table
 record Answered (table file s : List ℕ) : Type 0 where
   taken : Loaded table file
   sound : Sound (evidence_in s)
   lists : suspects (evidence_in s) ≡ list (head_in table) (cells_in table) (cases_in file)
 
-load_answered : (table file : List ℕ) (x : Memory) (n : ℕ) → ShowsMemory x (started_model table) → answered (load file) x ≡ Done n → (s' t' : List ℕ)
+load_answered : (table file : List ℕ) (x : Memory) (n : ℕ) → ShowsMemory x (started_model table) → answered (load file) x ≡ Ok n → (s' t' : List ℕ)
     → called (load file) x ≡ memory s' t' → Answered table file s'
 load_answered table file (memory s t) n k done s' t' e =
     let m : Model = started_model table in
@@ -115,9 +115,9 @@ bit_one : (b : Bool) → (bit b ≡ 1) ↔ (b ≡ true)
 bit_one true = (λ e. refl, λ e. refl)
 bit_one false = (λ e. absurd (omega arith), λ e. absurd (false≢true e))
 
--- the judge agrees with the session's list: after a start with a table file and a load of a record that both answered Done, it answers 1 to a fault
+-- the judge agrees with the session's list: after a start with a table file and a load of a record that both answered Ok, it answers 1 to a fault
 -- exactly if the fault explains all that the session holds, which is exactly if it stands in what the list call leaves (`demand-2`)
-pub judge_agrees : (s t table file : List ℕ) (n : ℕ) → answer_of (start_call s t table) ≡ Done 0 → answered (load file) (left (start_call s t table)) ≡ Done n
+pub judge_agrees : (s t table file : List ℕ) (n : ℕ) → answer_of (start_call s t table) ≡ Ok 0 → answered (load file) (left (start_call s t table)) ≡ Ok n
     → (s' t' : List ℕ) → called (load file) (left (start_call s t table)) ≡ memory s' t' → (f : ℕ) → is_fault (head_in table) (cells_in table) f ≡ true
     → (judgement table file f ≡ 1) ↔ Suspect (evidence_in s') f
 judge_agrees s t table file n started done s' t' e f fault =

@@ -7,19 +7,17 @@ use mathlib.Core.Path.{◌≡◌, refl, sym, ap, ◌∙◌}
 use mathlib.Core.Bool.{Bool, true, false}
 use mathlib.Core.List.{List, [], ◌∷◌, ◌++◌}
 use native.Mathlib.Omega.{arith}
-use lib.Dec.{ltb}
 use contract.Lifetimes.{Lfts}
 use borrow.Fn.Kinds.{ParamKind, ResultKind, Dens, Out, res_t, ended_of}
 use denote.Triple.Clauses.{Lasts, at_exit}
+use Rattle.std.specs.Prelude.{Ok, Err}
 use Rattle.shapes.specs.Edit.{KeptFrom, filled}
 use Rattle.shapes.specs.OneAnswer.{OneAnswer, OneReading}
 use Rattle.shapes.specs.Refusals.{Rule, Ruling, fine, refused, ruling, AllFalse, RefusedBy}
 use Rattle.shapes.proofs.Edit.{kept_all, filled_keeps}
 use Rattle.shapes.proofs.Refusals.{through, refused_when, fine_when}
-use Rattle.machine.specs.Head.{numbers, within, made_head}
+use Rattle.machine.specs.Head.{within, made_head}
 use Rattle.machine.specs.Case.{as_case, good_case}
-use Rattle.machine.specs.declared.head.Head.{Head}
-use Rattle.machine.specs.declared.replay.Symptoms as counted
 use Rattle.machine.proofs.Answers.{is_within_one, head_new_one, is_case_one}
 use Rattle.machine.proofs.head.is_within.Kinds as is_within_kinds
 use Rattle.machine.proofs.head.is_within.Reads as is_within_reads
@@ -27,14 +25,13 @@ use Rattle.machine.proofs.head.Head.new.Kinds as head_new_kinds
 use Rattle.machine.proofs.head.Head.new.Reads as head_new_reads
 use Rattle.machine.proofs.case.is_case.Kinds as is_case_kinds
 use Rattle.machine.proofs.case.is_case.Reads as is_case_reads
-use Rattle.house.specs.Refusal.{number_of, carried_of, checked, Written, wrote, written_or}
+use Rattle.house.specs.Refusal.{number_of, carried_of, checked, Written, wrote, written_or, ruled}
 use Rattle.house.specs.File.{file_rules}
-use Rattle.house.specs.Table.{head_in, cells_in, table_rules, table_or, table_read, table_bytes, table_file}
-use Rattle.house.specs.Cases.{case_rules, record_rules, record_or, record_read, cases_in}
+use Rattle.house.specs.Table.{head_in, cells_in, table_rules, table_read, table_bytes, table_file}
+use Rattle.house.specs.Cases.{case_rules, record_rules, record_read, cases_in}
 use Rattle.diagnosis.specs.Diagnosis.{explains_all}
 use Rattle.house.specs.declared.refusal.Refusal.{Refusal}
 use Rattle.house.specs.declared.refusal.Refusal.TheVariants.{Short, Version, Length, Size, Cell, Step, Full, Slot, Damaged, Record, Number}
-use Rattle.house.specs.declared.refusal.Answer.TheVariants as answers
 use Rattle.house.proofs.Refusing.{refusal_leaves}
 use Rattle.house.proofs.Answers.{check_file_one, read_table_one, read_record_one, check_case_one, refusal_number_one, refusal_carried_one}
 use Rattle.house.proofs.file.check_file.Kinds as check_file_kinds
@@ -66,15 +63,14 @@ use Rattle.product.proofs.five_litre.Reads as five_litre_reads
 use Rattle.product.proofs.eight_litre.Kinds as eight_litre_kinds
 use Rattle.product.proofs.eight_litre.Reads as eight_litre_reads
 use Rattle.diagnosis.specs.declared.Verdict.{Verdict}
-use Rattle.memory.specs.Layout.{head_of}
 use Rattle.memory.specs.Form.{room_rules, form_rules, slot_rules}
 use Rattle.memory.proofs.Answers.{check_room_one, check_form_one, check_slot_one}
 use Rattle.memory.proofs.form.check_room.Kinds as check_room_kinds
 use Rattle.memory.proofs.form.check_room.Reads as check_room_reads
 use Rattle.memory.proofs.form.check_form.Kinds as check_form_kinds
 use Rattle.memory.proofs.form.check_form.Reads as check_form_reads
-use Rattle.memory.proofs.form.check_slot.Kinds as check_slot_kinds
-use Rattle.memory.proofs.form.check_slot.Reads as check_slot_reads
+use Rattle.memory.proofs.slot.check_slot.Kinds as check_slot_kinds
+use Rattle.memory.proofs.slot.check_slot.Reads as check_slot_reads
 use Rattle.session.specs.Calls.{Outcome, after, outcome_or, offered, start_rules, start_call, add_rules, add_call, amend_rules, amend_call, withdraw_rules, withdraw_call, load_rules, load_call}
 use Rattle.session.specs.History.{start, add, amend, withdraw, load, left, called}
 use Rattle.session.proofs.Tails.{TailsKept, tails_kept}
@@ -89,9 +85,8 @@ use Rattle.session.proofs.calls.withdraw.Kinds as withdraw_kinds
 use Rattle.session.proofs.calls.withdraw.Reads as withdraw_reads
 use Rattle.session.proofs.calls.load.Kinds as load_kinds
 use Rattle.session.proofs.calls.load.Reads as load_reads
-use Rattle.reading.specs.Reads.{Listed, listed, listed_or, list_rules, list_call, false_tally, audit_if, audit_or, audit_call}
-use Rattle.report.specs.Reports.{save_rules, save_call, shown_or, symptoms_call, bytes_rules, conflict_call, candidates_call}
-use Rattle.reading.specs.declared.list.Listing.TheVariants as listings
+use Rattle.reading.specs.Reads.{Listed, listed, listed_or, list_rules, list_call, audit_call}
+use Rattle.report.specs.Reports.{save_rules, save_call, symptoms_call, bytes_rules, conflict_call, candidates_call}
 use Rattle.reading.proofs.Tails.{ListTail, list_tail}
 use Rattle.report.proofs.Tails.{WrittenTail, save_tail, conflict_tail, candidates_tail, written_tail}
 use Rattle.reading.proofs.Answers.{list_one, audit_one}
@@ -113,7 +108,7 @@ use Rattle.judge.proofs.Answers.{judge_one}
 use Rattle.judge.proofs.Exactly.{judge_done}
 use Rattle.judge.proofs.judge.Kinds as judge_kinds
 use Rattle.judge.proofs.judge.Reads as judge_reads
-use Rattle.demands.specs.Demand1.{HowRead, Lent, before, TailsLeft, Obeys, ObeysBy, says_checked, says_table, says_record, says_audited, says_shown, says_outcome, leaves_outcome, says_written, leaves_written, says_listed, leaves_listed, reads_only, changes_memory, writes_bytes, writes_numbers, memory_lent, buffer_lent, Start, Add, Amend, Withdraw, Load, ListFaults, Save, Audit, Symptoms, ConflictSet, Candidates, CheckRoom, CheckForm, CheckSlot, CheckFile, ReadTable, ReadRecord, CheckCase, WriteTable, Pick, PickRefusal, Judges}
+use Rattle.demands.specs.Demand1.{HowRead, Lent, before, TailsLeft, Obeys, ObeysBy, says_answer, says_outcome, leaves_outcome, says_written, leaves_written, says_listed, leaves_listed, reads_only, changes_memory, writes_bytes, writes_numbers, memory_lent, buffer_lent, Start, Add, Amend, Withdraw, Load, ListFaults, Save, Audit, Symptoms, ConflictSet, Candidates, CheckRoom, CheckForm, CheckSlot, CheckFile, ReadTable, ReadRecord, CheckCase, WriteTable, Pick, PickRefusal, Judges}
 
 -- An outcome that says what its rules say, leaves what was lent where they refuse, and leaves the tails, obeys: when rules refuse, and when they
 -- do not, is the laws `refused-when` and `fine-when`, of any list of rules
@@ -146,26 +141,9 @@ listed_says : (v : Ruling Refusal) (d : Verdict) (n : ℕ) (old new : List ℕ) 
 listed_says fine d n old new = refl
 listed_says (refused r) d n old new = refl
 
-audited_says : (v : Ruling Refusal) (b : Bool) (f : ℕ) → says_audited (audit_or v (audit_if b f)) ≡ v
-audited_says fine true f = refl
-audited_says fine false f = refl
-audited_says (refused r) b f = refl
-
-shown_says : (v : Ruling Refusal) (x : counted.Symptoms) → says_shown (shown_or v x) ≡ v
-shown_says fine x = refl
-shown_says (refused r) x = refl
-
-table_says : (v : Ruling Refusal) (h : Head) → says_table (table_or v h) ≡ v
-table_says fine h = refl
-table_says (refused r) h = refl
-
-record_says : (v : Ruling Refusal) (n : ℕ) → says_record (record_or v n) ≡ v
-record_says fine n = refl
-record_says (refused r) n = refl
-
-checked_says : (v : Ruling Refusal) → says_checked (checked v) ≡ v
-checked_says fine = refl
-checked_says (refused r) = refl
+ruled_says : {A : Type 0} (v : Ruling Refusal) (a : A) → says_answer (ruled v a) ≡ v
+ruled_says fine a = refl
+ruled_says (refused r) a = refl
 
 -- What is left where that ruling refuses is what was lent
 outcome_leaves : (v : Ruling Refusal) (n : ℕ) (s t s' t' : List ℕ) (r : Refusal) → v ≡ refused r
@@ -186,12 +164,12 @@ outcome_tails : (s t : List ℕ) (x : Outcome) → TailsKept s t (left x) → Ta
 outcome_tails s t (after a s' t') kept = (kept.0, (kept.1, tt))
 
 written_tails : (n : ℕ) (old : List ℕ) (x : Written) → WrittenTail n old x → TailsLeft (buffer_lent old n) (leaves_written x)
-written_tails n old (wrote (answers.Done m) new) kept = (kept, tt)
-written_tails n old (wrote (answers.Refused r) new) same = (rw same (kept_all n old), tt)
+written_tails n old (wrote (Ok m) new) kept = (kept, tt)
+written_tails n old (wrote (Err r) new) same = (rw same (kept_all n old), tt)
 
 listed_tails : (n : ℕ) (old : List ℕ) (x : Listed) → ListTail n old x → TailsLeft (buffer_lent old n) (leaves_listed x)
-listed_tails n old (listed (listings.Faults d m) new) kept = (kept, tt)
-listed_tails n old (listed (listings.Refused r) new) same = (rw same (kept_all n old), tt)
+listed_tails n old (listed (Ok x) new) kept = (kept, tt)
+listed_tails n old (listed (Err r) new) same = (rw same (kept_all n old), tt)
 
 -- So each kind of outcome obeys the rules that it was made from
 module _ (rules : List (Rule Refusal)) (n : ℕ) (s t s' t' : List ℕ) where
@@ -222,8 +200,8 @@ module _ (rules : List (Rule Refusal)) (d : Verdict) (n needed : ℕ) (old new :
       (listed_says (ruling rules) d n old new) (listed_leaves (ruling rules) d n old new) (listed_tails needed old listing tail)
 
 -- a check answers the ruling itself
-checked_obeys : (rules : List (Rule Refusal)) → Obeys (reads_only says_checked) rules [] (checked (ruling rules))
-checked_obeys rules = reads_obeys says_checked rules (checked (ruling rules)) (checked_says (ruling rules))
+checked_obeys : (rules : List (Rule Refusal)) → Obeys (reads_only says_answer) rules [] (checked (ruling rules))
+checked_obeys rules = reads_obeys says_answer rules (checked (ruling rules)) (ruled_says (ruling rules) tt)
 
 -- The calls that change a session
 start_obeys : Start start_call
@@ -258,12 +236,11 @@ save_obeys s t out = written_obeys (save_rules s t out) _ _ out _ (save_tail s t
 audit_obeys : Audit audit_call
 unfolding audit_call
 audit_obeys s t =
-    reads_obeys says_audited (form_rules s t) _
-    (audited_says (ruling (form_rules s t)) (ltb (false_tally s t) (numbers (head_of s))) (false_tally s t))
+    reads_obeys says_answer (form_rules s t) _ (ruled_says (ruling (form_rules s t)) _)
 
 symptoms_obeys : Symptoms symptoms_call
 unfolding symptoms_call
-symptoms_obeys s t p = reads_obeys says_shown (slot_rules s t p) _ (shown_says (ruling (slot_rules s t p)) _)
+symptoms_obeys s t p = reads_obeys says_answer (slot_rules s t p) _ (ruled_says (ruling (slot_rules s t p)) _)
 
 conflict_set_obeys : ConflictSet conflict_call
 unfolding conflict_call
@@ -289,11 +266,11 @@ check_file_obeys v file = checked_obeys (file_rules v file)
 
 read_table_obeys : ReadTable table_read
 unfolding table_read
-read_table_obeys file = reads_obeys says_table (table_rules file) _ (table_says (ruling (table_rules file)) _)
+read_table_obeys file = reads_obeys says_answer (table_rules file) _ (ruled_says (ruling (table_rules file)) _)
 
 read_record_obeys : ReadRecord record_read
 unfolding record_read
-read_record_obeys file = reads_obeys says_record (record_rules file) _ (record_says (ruling (record_rules file)) _)
+read_record_obeys file = reads_obeys says_answer (record_rules file) _ (ruled_says (ruling (record_rules file)) _)
 
 check_case_obeys : CheckCase (λ h a c. checked (ruling (case_rules h a c)))
 check_case_obeys h a c = checked_obeys (case_rules h a c)

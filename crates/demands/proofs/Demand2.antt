@@ -11,6 +11,7 @@ use native.Mathlib.Nat.{zero-add}
 use native.Mathlib.Omega.{arith}
 use borrow.Author.Tests.{lt-ltb, eq-eqb, not-true}
 use lib.ListN.{length, get_or, take}
+use Rattle.std.specs.Prelude.{None, Ok}
 use Rattle.shapes.specs.Edit.{filled}
 use Rattle.shapes.specs.Keep.{has, bit, some, Among}
 use Rattle.shapes.proofs.Edit.{filled_in, filled_keeps}
@@ -33,8 +34,6 @@ use Rattle.machine.proofs.Cases.{case_in}
 use Rattle.machine.proofs.Run.{first_step, first_differs, reproduces_exactly}
 use Rattle.house.specs.Refusal.{wrote}
 use Rattle.house.specs.Cases.{record_read, cases_in}
-use Rattle.house.specs.declared.refusal.Answer.TheVariants.{Done}
-use Rattle.house.specs.declared.cases.RecordFile.TheVariants.{Record}
 use Rattle.diagnosis.specs.Diagnosis.{explains, fails, explains_all, some_fails, verdict_of, is_candidate}
 use Rattle.diagnosis.proofs.Lists.{listed_exactly, listed_rising, clear_exactly, found_exactly, none_exactly}
 use Rattle.memory.specs.Layout.{head_of, cases}
@@ -43,7 +42,6 @@ use Rattle.memory.specs.Form.{Formed}
 use Rattle.memory.proofs.Formed.{table_good, formed_table, cases_good}
 use Rattle.reading.specs.Reads.{list_call, audit_call}
 use Rattle.report.specs.Reports.{save_call, candidates_call}
-use Rattle.reading.specs.declared.audit.Audited.TheVariants.{True}
 use Rattle.reading.proofs.Told.{audit_true_exactly, list_answers}
 use Rattle.report.proofs.Told.{save_reads_back, candidates_done, candidates_byte}
 use Rattle.demands.specs.Demand2.{Evidence, evidence_in, AgreesAt, GivesEvery, SomeFails, Explains, Suspect, suspects, Stands, Lists, ListAnswers}
@@ -242,7 +240,7 @@ session_sound s t k = record { table = table_good s k.session_room (formed_table
 
 -- **Demand 2**: while an audit finds the tallies true, and the buffer has room for the list, the list call answers and leaves it. An audit means
 -- what it says: `audit-true-exactly`, `audit-false-exactly` of `reading/proofs/Told.antt`
-pub demand_2 : (s t out : List ℕ) → audit_call s t ≡ True → length (suspects (evidence_in s)) ≤ length out
+pub demand_2 : (s t out : List ℕ) → audit_call s t ≡ Ok None → length (suspects (evidence_in s)) ≤ length out
     → ListAnswers (evidence_in s) out (list_call s t out)
 demand_2 s t out audited room =
     let k = (audit_true_exactly s t).0 audited in
@@ -255,12 +253,12 @@ demand_2 s t out audited room =
     }
 
 -- "A record reads back as its cases in order": what a save answers and leaves reads back as the cases held, in order
-pub demand_2_record : (s t out : List ℕ) (n : ℕ) (left : List ℕ) → save_call s t out ≡ wrote (Done n) left
-    → (record_read (take n left) ≡ Record (length (cases s))) × (cases_in (take n left) ≡ cases s)
+pub demand_2_record : (s t out : List ℕ) (n : ℕ) (left : List ℕ) → save_call s t out ≡ wrote (Ok n) left
+    → (record_read (take n left) ≡ Ok (length (cases s))) × (cases_in (take n left) ≡ cases s)
 demand_2_record s t out n left e = save_reads_back s t out n left e
 
 -- where some case fails, the byte that the candidates call leaves at the cell of a listed fault is 1
-pub demand_2_candidates : (s t out : List ℕ) (n : ℕ) (left : List ℕ) → candidates_call s t out ≡ wrote (Done n) left → SomeFails (evidence_in s)
+pub demand_2_candidates : (s t out : List ℕ) (n : ℕ) (left : List ℕ) → candidates_call s t out ≡ wrote (Ok n) left → SomeFails (evidence_in s)
     → (f : ℕ) → Suspect (evidence_in s) f → get_or left (cell_of (head_of s) f) 0 ≡ 1
 demand_2_candidates s t out n left e bad f suspect =
     let one = suspect_candidate (evidence_in s) (session_sound s t (candidates_done s t out n left e)) bad f suspect in

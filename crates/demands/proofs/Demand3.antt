@@ -11,6 +11,7 @@ use native.Mathlib.Omega.{arith}
 use borrow.Author.Tests.{lt-ltb}
 use lib.ListN.{length, get_or, take}
 use lib.Seq.{length-take-le, get_or-take, ext_get_or}
+use Rattle.std.specs.Prelude.{Ok}
 use Rattle.shapes.specs.Edit.{filled}
 use Rattle.shapes.specs.Keep.{bit}
 use Rattle.shapes.proofs.Edit.{edit_in, edit_same, take_filled}
@@ -26,8 +27,6 @@ use Rattle.machine.proofs.Same.{Alike, symptoms_alike, specified_same}
 use Rattle.house.specs.Refusal.{wrote}
 use Rattle.house.specs.Table.{head_in, cells_in, table_read, table_bytes, table_file}
 use Rattle.house.specs.Cases.{record_file}
-use Rattle.house.specs.declared.refusal.Answer.TheVariants.{Done}
-use Rattle.house.specs.declared.table.TableFile.TheVariants.{Table}
 use Rattle.house.proofs.Tables.{table_taken}
 use Rattle.product.specs.Tables.{product_head, product_cells}
 use Rattle.product.specs.declared.Product.{Product}
@@ -39,16 +38,14 @@ use Rattle.memory.specs.Layout.{places_most, session_size, tallies_size, head_of
 use Rattle.memory.specs.Form.{is_slot}
 use Rattle.memory.proofs.Formed.{formed_place, place_good}
 use Rattle.session.specs.Calls.{Outcome, after, start_call}
-use Rattle.session.specs.History.{OneCase, tally_in, WithinOne, Call, Memory, memory, answer_of, left, answered, called_all, called, free, holds, Model, cases_held, started_model, steps, accepted_all, content_of, Shows}
+use Rattle.session.specs.History.{OneCase, tally_in, WithinOne, Call, Memory, memory, answer_of, left, called_all, called, free, holds, Model, cases_held, started_model, steps, accepted_all, content_of, Shows}
 use Rattle.session.proofs.Histories.{ShowsMemory, start_accepted, start_shows, history, shown_cases, shown_tally, shown_table, shown_good, answered_exactly, accepted_steps, refused_step}
 use Rattle.session.proofs.Outcomes.{refused_leaves}
 use Rattle.session.proofs.Models.{Whole, started_whole, steps_whole}
 use Rattle.session.proofs.OneCase.{one_case}
-use Rattle.reading.specs.Reads.{listed, list_call}
-use Rattle.reading.specs.declared.list.Listing.TheVariants.{Faults}
+use Rattle.reading.specs.Reads.{listed, list_call, faults}
 use Rattle.diagnosis.specs.declared.Verdict.{Verdict}
 use Rattle.report.specs.Reports.{candidate_bytes, conflict_call, symptoms_call, candidates_call, save_call}
-use Rattle.report.specs.declared.conflicts.Shown.TheVariants.{Symptoms}
 use Rattle.reading.proofs.Told.{list_formed}
 use Rattle.report.proofs.Told.{save_formed, candidates_formed, symptoms_formed, conflict_formed}
 use Rattle.reading.proofs.Shown.{shown_list, shown_verdict, shown_audit}
@@ -85,7 +82,7 @@ module _ (s t : List ℕ) (m : Model) (k : Shows s t m) (w : Whole m) where
 
   -- the list call answers the verdict on the cases held and leaves their list,
   pub left_listed : (out : List ℕ) → length (suspects (evidence_left m)) ≤ length out
-      → list_call s t out ≡ listed (Faults (verdict_left m) (length (suspects (evidence_left m)))) (filled out 0 (suspects (evidence_left m)))
+      → list_call s t out ≡ listed (faults (verdict_left m) (length (suspects (evidence_left m)))) (filled out 0 (suspects (evidence_left m)))
   left_listed out room =
       let same = shown_list s t m k in list_formed s t k.formed out (rw same room) ∙ rw (shown_verdict s t m k, same)
 
@@ -102,7 +99,7 @@ module _ (s t : List ℕ) (m : Model) (k : Shows s t m) (w : Whole m) where
 
   -- and what a save writes is the record of the cases held
   left_saves : (out : List ℕ) → length (record_file (cases_held m)) ≤ length out
-      → save_call s t out ≡ wrote (Done (length (record_file (cases_held m)))) (filled out 0 (record_file (cases_held m)))
+      → save_call s t out ≡ wrote (Ok (length (record_file (cases_held m)))) (filled out 0 (record_file (cases_held m)))
   left_saves out room =
       let same = shown_cases s t m k in save_formed s t k.formed out (rw same room) ∙ rw same
 
@@ -126,31 +123,31 @@ module _ (s t : List ℕ) (m : Model) (k : Shows s t m) (w : Whole m) where
         rw (← k.same_head, ← left_held.1) (place_good s p (formed_place s t k.formed p l) left_held.0)
 
     -- its symptoms are those of the model's machine,
-    left_symptoms : symptoms_call s t p ≡ Symptoms (symptoms_of (machine_left m) c.inputs c.outputs)
+    left_symptoms : symptoms_call s t p ≡ Ok (symptoms_of (machine_left m) c.inputs c.outputs)
     left_symptoms =
         symptoms_formed s t k.formed p left_slot
-        ∙ ap Symptoms
+        ∙ ap Ok
         (rw (left_held.1, k.same_head)
         (symptoms_alike m.head _ _ w.table.head left_alike c.inputs c.outputs
         (case_step m.head c.inputs c.outputs (case_in m.head c.inputs c.outputs left_good))))
 
     -- and so is its conflict set
-    pub left_conflicts : (out : List ℕ) → cells_most ≤ length out → conflict_call s t p out ≡ wrote (Done 0) (conflict_bytes (machine_left m) c out)
+    pub left_conflicts : (out : List ℕ) → cells_most ≤ length out → conflict_call s t p out ≡ wrote (Ok 0) (conflict_bytes (machine_left m) c out)
     unfolding conflict_bytes
     left_conflicts out room =
         conflict_formed s t k.formed p left_slot out room
-        ∙ ap (wrote (Done 0))
+        ∙ ap (wrote (Ok 0))
         (rw (left_held.1, k.same_head)
         (edit_same _ 0 _ cells_most out
         (λ cell old h. ap bit (conflicts_same m.head (cells_of s) m.cells (shown_table s t m k) k.same_cells c left_good cell))))
 
   -- the candidates are those of the model's machine and cases,
   left_candidates : (out : List ℕ) → cells_most ≤ length out
-      → candidates_call s t out ≡ wrote (Done 0) (candidate_bytes (machine_left m) (cases_held m) out)
+      → candidates_call s t out ≡ wrote (Ok 0) (candidate_bytes (machine_left m) (cases_held m) out)
   unfolding candidate_bytes
   left_candidates out room =
       candidates_formed s t k.formed out room
-      ∙ ap (wrote (Done 0))
+      ∙ ap (wrote (Ok 0))
       (rw (shown_cases s t m k, k.same_head)
       (edit_same _ 0 _ cells_most out
       (λ cell old h. ap bit (candidate_same m.head (cells_of s) m.cells (shown_table s t m k) k.same_cells (cases_held m) (shown_good s t m k) cell))))
@@ -195,15 +192,15 @@ module _ (s t : List ℕ) (m : Model) (k : Shows s t m) (w : Whole m) where
         next_refused = λ c r e. (refused_step c s t m k r e, refused_leaves c (memory s t) r e);
       }
 
--- a start that answered Done 0 had a table file
-pub start_table : (s t file : List ℕ) → answer_of (start_call s t file) ≡ Done 0 → table_read file ≡ Table (head_in file)
+-- a start that answered Ok 0 had a table file
+pub start_table : (s t file : List ℕ) → answer_of (start_call s t file) ≡ Ok 0 → table_read file ≡ Ok (head_in file)
 start_table s t file done = table_of ((start_accepted s t file).0 done)
   where
-    table_of : ((session_size ≤ length s) × ((tallies_size ≤ length t) × (table_read file ≡ Table (head_in file)))) → table_read file ≡ Table (head_in file)
+    table_of : ((session_size ≤ length s) × ((tallies_size ≤ length t) × (table_read file ≡ Ok (head_in file)))) → table_read file ≡ Ok (head_in file)
     table_of (room, (tallies_room, read)) = read
 
--- **Demand 3**: after a start that answered Done 0 and any calls whatever, all is as the calls that answered Done leave it
-pub demand_3 : (s t file : List ℕ) → answer_of (start_call s t file) ≡ Done 0 → (calls : List Call) (s' t' : List ℕ)
+-- **Demand 3**: after a start that answered Ok 0 and any calls whatever, all is as the calls that answered Ok leave it
+pub demand_3 : (s t file : List ℕ) → answer_of (start_call s t file) ≡ Ok 0 → (calls : List Call) (s' t' : List ℕ)
     → called_all calls (left (start_call s t file)) ≡ memory s' t' → AfterCalls (accepted_all calls (left (start_call s t file)) (started_model file)) s' t'
 demand_3 s t file done calls s' t' e =
     let x : Memory = left (start_call s t file) in
@@ -220,8 +217,8 @@ demand_3_one_case c one x f = one_case c one x f
 outcome_left : (o : Outcome) → (t' : List ℕ) × (left o ≡ memory (session_left o) t')
 outcome_left (after a s t) = (t, refl)
 
--- right after a start that answered Done 0 the session shows its table's head and cells
-start_shown : (s t file : List ℕ) (h : Head) → answer_of (start_call s t file) ≡ Done 0 → table_read file ≡ Table h
+-- right after a start that answered Ok 0 the session shows its table's head and cells
+start_shown : (s t file : List ℕ) (h : Head) → answer_of (start_call s t file) ≡ Ok 0 → table_read file ≡ Ok h
     → (head_of (session_left (start_call s t file)) ≡ h) × (take (2 * cell_count h) (cells_of (session_left (start_call s t file))) ≡ cells_in file)
 unfolding started_model accepted_all called_all
 start_shown s t file h done read =
@@ -250,11 +247,11 @@ right_table p out s t room session_room tallies_room =
     again : take (table_bytes (product_head p)) (filled out 0 file) ≡ file
     again = rw (← built_in_bytes p) (take_filled out file (rw (built_in_bytes p) room))
 
-    read : table_read file ≡ Table (product_head p)
+    read : table_read file ≡ Ok (product_head p)
     read = (built_in_reads p).0
 
-    done : answer_of (start_call s t file) ≡ Done 0
-    done = (start_accepted s t file).1 (session_room, (tallies_room, read ∙ ap Table (table_taken file (product_head p) read).1))
+    done : answer_of (start_call s t file) ≡ Ok 0
+    done = (start_accepted s t file).1 (session_room, (tallies_room, read ∙ ap Ok (table_taken file (product_head p) read).1))
 
     shown : (head_of (session_left (start_call s t file)) ≡ product_head p)
         × (take (2 * cell_count (product_head p)) (cells_of (session_left (start_call s t file))) ≡ cells_in file)

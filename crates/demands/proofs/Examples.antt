@@ -8,6 +8,7 @@ use mathlib.Core.List.{List, [], ◌∷◌}
 use lib.Dec.{eqb, ltb}
 use lib.ListN.{length, get_or}
 use borrow.Author.Tests.{eqb-true, ltb-true}
+use Rattle.std.specs.Prelude.{Ok}
 use Rattle.shapes.specs.First.{first, all_to}
 use Rattle.shapes.specs.Keep.{keep_to, has, bit, count, every, some}
 use Rattle.shapes.specs.Refusals.{refused_if, ruling}
@@ -25,8 +26,6 @@ use Rattle.machine.proofs.Same.{expected_alike}
 use Rattle.house.specs.Refusal.{wrote}
 use Rattle.house.specs.File.{file_rules, file_head}
 use Rattle.house.specs.Table.{head_in, bad_size, bad_cells, table_rules, table_read, table_head_bytes, table_file}
-use Rattle.house.specs.declared.refusal.Answer.TheVariants.{Done}
-use Rattle.house.specs.declared.table.TableFile.TheVariants.{Table}
 use Rattle.diagnosis.specs.Diagnosis.{explains, fails, misses, tally, explains_all, is_listed, list, some_fails, conflicts, conflict_bytes}
 use Rattle.memory.specs.Layout.{places_most}
 use Rattle.session.specs.Calls.{start_call}
@@ -54,7 +53,7 @@ abbrev all_taken : List Call → Model → Bool
 all_taken [] m = true
 all_taken (c ∷ cs) m = takes c m && all_taken cs (step c m)
 
--- then each of them answers Done on a memory that shows it
+-- then each of them answers Ok on a memory that shows it
 all_done : (calls : List Call) (x : Memory) (m : Model) → ShowsMemory x m → all_taken calls m ≡ true → AllDone calls x
 all_done [] x m k e = tt
 all_done (c ∷ cs) (memory s t) m k e =
@@ -64,7 +63,7 @@ all_done (c ∷ cs) (memory s t) m k e =
     )
 
 -- what is so of every memory that shows the model which the calls leave is so of every session that the file starts
-in_session : (file : List ℕ) (calls : List Call) → table_read file ≡ Table (head_in file) → all_taken calls (started_model file) ≡ true
+in_session : (file : List ℕ) (calls : List Call) → table_read file ≡ Ok (head_in file) → all_taken calls (started_model file) ≡ true
     → (So : List ℕ → List ℕ → Type 0) → ((s t : List ℕ) → Shows s t (model_left file calls) → Whole (model_left file calls) → So s t)
     → InSession file calls So
 in_session file calls read taken So shown s t room rest =
@@ -79,30 +78,30 @@ in_session file calls read taken So shown s t room rest =
 -- what is computed for a row: its file is a table's, the model takes its calls, and then has what the row says
 abbrev Computed : Example → Type 0
 Computed (gives file is ys) =
-    (table_read file ≡ Table (head_in file))
+    (table_read file ≡ Ok (head_in file))
     × (all_to (λ i. ltb (get_or is i 0) (head_in file).inputs) (length is) ≡ true)
     × (expected (machine_left (started_model file)) is ≡ ys)
 Computed (diagnoses file calls v l) =
-    (table_read file ≡ Table (head_in file))
+    (table_read file ≡ Ok (head_in file))
     × (all_taken calls (started_model file) ≡ true)
     × (verdict_left (model_left file calls) ≡ v) × (list_left (model_left file calls) ≡ l)
 Computed (counts_listed file calls v n) =
-    (table_read file ≡ Table (head_in file))
+    (table_read file ≡ Ok (head_in file))
     × (all_taken calls (started_model file) ≡ true)
     × (verdict_left (model_left file calls) ≡ v) × (length (list_left (model_left file calls)) ≡ n)
 Computed (has_conflict file calls p cells) =
-    (table_read file ≡ Table (head_in file))
+    (table_read file ≡ Ok (head_in file))
     × (all_taken calls (started_model file) ≡ true)
     × (ltb p places_most ≡ true)
     × ((c : Case)
     × ((model_left file calls).at p ≡ holds c)
     × (all_to (λ cell. eqb (bit (conflicts (machine_left (model_left file calls)) c cell)) (bit (has cell cells))) cells_most ≡ true))
 Computed (has_tally file calls f n) =
-    (table_read file ≡ Table (head_in file))
+    (table_read file ≡ Ok (head_in file))
     × (all_taken calls (started_model file) ≡ true)
     × (ltb f (numbers (model_left file calls).head) ≡ true) × (tally_left (model_left file calls) f ≡ n)
 Computed (all_tallies file calls n k) =
-    (table_read file ≡ Table (head_in file))
+    (table_read file ≡ Ok (head_in file))
     × (all_taken calls (started_model file) ≡ true)
     × (numbers (model_left file calls).head ≡ n)
     × (all_to (λ f. eqb (tally_left (model_left file calls) f) k) n ≡ true)
@@ -124,7 +123,7 @@ row_holds (has_conflict file calls p cells) (read, taken, place, (c, here, same)
     in_session file calls read taken _
     (λ s t k w out room.
     left_conflicts s t _ k w p (ltb-true p places_most place) c here out room
-    ∙ ap (wrote (Done 0)) (edit_same _ 0 _ cells_most out (λ cell old l. eqb-true _ _ (all_at _ cells_most same cell l))))
+    ∙ ap (wrote (Ok 0)) (edit_same _ 0 _ cells_most out (λ cell old l. eqb-true _ _ (all_at _ cells_most same cell l))))
 row_holds (has_tally file calls f n) (read, taken, used, is_tally) =
     in_session file calls read taken _ (λ s t k w. shown_tally s t _ k f (ltb-true _ _ used) ∙ is_tally)
 row_holds (all_tallies file calls n x) (read, taken, is_count, same) =

@@ -4,7 +4,7 @@
 -- test is true refuses (`shapes/specs/Refusals.antt`: `RefusedBy` that rule's refusal; `AllFalse` where none does). Then what is said of each
 -- call that refuses: of `call`, which is the definition that its contract is equal to. That a call ends, and takes any arguments, is what the
 -- check proves of every function that has no `requires`. `proofs/Demand1.antt` has the table.
-use Rattle.std.specs.Prelude.{ℕ, ◌+◌, ◌≤◌, ◌≡◌, ◌↔◌, List, [], ◌∷◌, ◌++◌, length}
+use Rattle.std.specs.Prelude.{ℕ, ◌+◌, ◌≤◌, ◌≡◌, ◌↔◌, List, [], ◌∷◌, ◌++◌, length, Option, Result, Ok, Err}
 use Rattle.shapes.specs.Edit.{KeptFrom}
 use Rattle.shapes.specs.Keep.{bit}
 use Rattle.shapes.specs.Refusals.{Rule, Ruling, fine, refused, AllFalse, RefusedBy}
@@ -15,12 +15,9 @@ use Rattle.house.specs.Refusal.{number_of, Written, wrote}
 use Rattle.house.specs.File.{file_rules}
 use Rattle.house.specs.Table.{head_in, cells_in, table_rules, table_bytes}
 use Rattle.house.specs.Cases.{case_rules, record_file, record_rules, cases_in}
+use Rattle.machine.specs.declared.replay.Symptoms as counted
 use Rattle.house.specs.declared.refusal.Refusal.{Refusal}
-use Rattle.house.specs.declared.refusal.Checked as Checked_type
-use Rattle.house.specs.declared.refusal.Answer as Answer_type
 use Rattle.house.specs.declared.cases.About.{About}
-use Rattle.house.specs.declared.table.TableFile as TableFile_type
-use Rattle.house.specs.declared.cases.RecordFile as RecordFile_type
 use Rattle.retest.specs.Retest.{retest_rules}
 use Rattle.product.specs.Tables.{product_head, write_rules}
 use Rattle.product.specs.declared.Product.{Product}
@@ -30,9 +27,6 @@ use Rattle.memory.specs.Form.{room_rules, form_rules, slot_rules}
 use Rattle.session.specs.Calls.{Outcome, after, Offer, start_rules, add_rules, amend_rules, withdraw_rules, load_rules}
 use Rattle.reading.specs.Reads.{Listed, listed, list_of, list_rules}
 use Rattle.report.specs.Reports.{save_rules, bytes_rules}
-use Rattle.reading.specs.declared.list.Listing as Listing_type
-use Rattle.reading.specs.declared.audit.Audited as Audited_type
-use Rattle.report.specs.declared.conflicts.Shown as Shown_type
 use Rattle.judge.specs.Judge.{judge_rules, refused_from}
 
 -- how an outcome is read: with what it refuses, fine where it does not; and what it leaves in the buffers that were lent to be written
@@ -73,35 +67,10 @@ pub record ObeysBy (from : ℕ) (rules : List (Rule Refusal)) (answer : ℕ) : T
   pub refused_exactly : (q : ℕ) → 1 ≤ q → (answer ≡ from + q) ↔ ((r : Refusal) × (RefusedBy rules r × (number_of r ≡ q)))
   pub answered_exactly : (answer ≤ from) ↔ AllFalse rules
 
--- with what each kind of outcome refuses
-abbrev pub says_checked : Checked_type.Checked → Ruling Refusal
-says_checked Checked_type.TheVariants.Fine = fine
-says_checked (Checked_type.TheVariants.Refused r) = refused r
-
-abbrev pub says_table : TableFile_type.TableFile → Ruling Refusal
-says_table (TableFile_type.TheVariants.Table h) = fine
-says_table (TableFile_type.TheVariants.Refused r) = refused r
-
-abbrev pub says_record : RecordFile_type.RecordFile → Ruling Refusal
-says_record (RecordFile_type.TheVariants.Record n) = fine
-says_record (RecordFile_type.TheVariants.Refused r) = refused r
-
-abbrev pub says_audited : Audited_type.Audited → Ruling Refusal
-says_audited Audited_type.TheVariants.True = fine
-says_audited (Audited_type.TheVariants.False f) = fine
-says_audited (Audited_type.TheVariants.Refused r) = refused r
-
-abbrev pub says_shown : Shown_type.Shown → Ruling Refusal
-says_shown (Shown_type.TheVariants.Symptoms x) = fine
-says_shown (Shown_type.TheVariants.Refused r) = refused r
-
-abbrev pub says_answer : Answer_type.Answer → Ruling Refusal
-says_answer (Answer_type.TheVariants.Done n) = fine
-says_answer (Answer_type.TheVariants.Refused r) = refused r
-
-abbrev pub says_listing : Listing_type.Listing → Ruling Refusal
-says_listing (Listing_type.TheVariants.Faults v n) = fine
-says_listing (Listing_type.TheVariants.Refused r) = refused r
+-- with what an answer refuses
+abbrev pub says_answer : {A : Type 0} → Result A Refusal → Ruling Refusal
+says_answer (Ok a) = fine
+says_answer (Err r) = refused r
 
 -- of an answer with buffers, and what it leaves in them
 abbrev pub says_outcome : Outcome → Ruling Refusal
@@ -117,7 +86,7 @@ abbrev pub leaves_written : Written → List (List ℕ)
 leaves_written (wrote a l) = l ∷ []
 
 abbrev pub says_listed : Listed → Ruling Refusal
-says_listed (listed a l) = says_listing a
+says_listed (listed a l) = says_answer a
 
 abbrev pub leaves_listed : Listed → List (List ℕ)
 leaves_listed (listed a l) = l ∷ []
@@ -166,11 +135,11 @@ ListFaults call = (s t out : List ℕ) → Obeys writes_numbers (list_rules s t 
 abbrev pub Save : (List ℕ → List ℕ → List ℕ → Written) → Type 0
 Save call = (s t out : List ℕ) → Obeys writes_bytes (save_rules s t out) (buffer_lent out (length (record_file (cases s)))) (call s t out)
 
-abbrev pub Audit : (List ℕ → List ℕ → Audited_type.Audited) → Type 0
-Audit call = (s t : List ℕ) → Obeys (reads_only says_audited) (form_rules s t) [] (call s t)
+abbrev pub Audit : (List ℕ → List ℕ → Result (Option ℕ) Refusal) → Type 0
+Audit call = (s t : List ℕ) → Obeys (reads_only says_answer) (form_rules s t) [] (call s t)
 
-abbrev pub Symptoms : (List ℕ → List ℕ → ℕ → Shown_type.Shown) → Type 0
-Symptoms call = (s t : List ℕ) (p : ℕ) → Obeys (reads_only says_shown) (slot_rules s t p) [] (call s t p)
+abbrev pub Symptoms : (List ℕ → List ℕ → ℕ → Result counted.Symptoms Refusal) → Type 0
+Symptoms call = (s t : List ℕ) (p : ℕ) → Obeys (reads_only says_answer) (slot_rules s t p) [] (call s t p)
 
 abbrev pub ConflictSet : (List ℕ → List ℕ → ℕ → List ℕ → Written) → Type 0
 ConflictSet call =
@@ -180,27 +149,27 @@ abbrev pub Candidates : (List ℕ → List ℕ → List ℕ → Written) → Typ
 Candidates call = (s t out : List ℕ) → Obeys writes_bytes (form_rules s t ++ bytes_rules out) (buffer_lent out cells_most) (call s t out)
 
 -- the checks that these begin with
-abbrev pub CheckRoom : (List ℕ → List ℕ → Checked_type.Checked) → Type 0
-CheckRoom call = (s t : List ℕ) → Obeys (reads_only says_checked) (room_rules s t) [] (call s t)
+abbrev pub CheckRoom : (List ℕ → List ℕ → Result (Unit {0}) Refusal) → Type 0
+CheckRoom call = (s t : List ℕ) → Obeys (reads_only says_answer) (room_rules s t) [] (call s t)
 
-abbrev pub CheckForm : (List ℕ → List ℕ → Checked_type.Checked) → Type 0
-CheckForm call = (s t : List ℕ) → Obeys (reads_only says_checked) (form_rules s t) [] (call s t)
+abbrev pub CheckForm : (List ℕ → List ℕ → Result (Unit {0}) Refusal) → Type 0
+CheckForm call = (s t : List ℕ) → Obeys (reads_only says_answer) (form_rules s t) [] (call s t)
 
-abbrev pub CheckSlot : (List ℕ → List ℕ → ℕ → Checked_type.Checked) → Type 0
-CheckSlot call = (s t : List ℕ) (p : ℕ) → Obeys (reads_only says_checked) (slot_rules s t p) [] (call s t p)
+abbrev pub CheckSlot : (List ℕ → List ℕ → ℕ → Result (Unit {0}) Refusal) → Type 0
+CheckSlot call = (s t : List ℕ) (p : ℕ) → Obeys (reads_only says_answer) (slot_rules s t p) [] (call s t p)
 
 -- the files
-abbrev pub CheckFile : (ℕ → List ℕ → Checked_type.Checked) → Type 0
-CheckFile call = (v : ℕ) (file : List ℕ) → Obeys (reads_only says_checked) (file_rules v file) [] (call v file)
+abbrev pub CheckFile : (ℕ → List ℕ → Result (Unit {0}) Refusal) → Type 0
+CheckFile call = (v : ℕ) (file : List ℕ) → Obeys (reads_only says_answer) (file_rules v file) [] (call v file)
 
-abbrev pub ReadTable : (List ℕ → TableFile_type.TableFile) → Type 0
-ReadTable call = (file : List ℕ) → Obeys (reads_only says_table) (table_rules file) [] (call file)
+abbrev pub ReadTable : (List ℕ → Result Head Refusal) → Type 0
+ReadTable call = (file : List ℕ) → Obeys (reads_only says_answer) (table_rules file) [] (call file)
 
-abbrev pub ReadRecord : (List ℕ → RecordFile_type.RecordFile) → Type 0
-ReadRecord call = (file : List ℕ) → Obeys (reads_only says_record) (record_rules file) [] (call file)
+abbrev pub ReadRecord : (List ℕ → Result ℕ Refusal) → Type 0
+ReadRecord call = (file : List ℕ) → Obeys (reads_only says_answer) (record_rules file) [] (call file)
 
-abbrev pub CheckCase : (Head → About → Case → Checked_type.Checked) → Type 0
-CheckCase call = (h : Head) (a : About) (c : Case) → Obeys (reads_only says_checked) (case_rules h a c) [] (call h a c)
+abbrev pub CheckCase : (Head → About → Case → Result (Unit {0}) Refusal) → Type 0
+CheckCase call = (h : Head) (a : About) (c : Case) → Obeys (reads_only says_answer) (case_rules h a c) [] (call h a c)
 
 -- a product's table written as a file
 abbrev pub WriteTable : Product → (List ℕ → Written) → Type 0

@@ -17,8 +17,7 @@ use Rattle.diagnosis.specs.Diagnosis.{list}
 use Rattle.diagnosis.specs.declared.Verdict.{Verdict}
 use Rattle.diagnosis.specs.declared.Verdict.TheVariants as verdicts
 use Rattle.memory.specs.Layout.{head_of, cells_of, cases}
-use Rattle.reading.specs.Reads.{Listed, listed}
-use Rattle.reading.specs.declared.list.Listing.TheVariants.{Faults}
+use Rattle.reading.specs.Reads.{Listed, listed, faults}
 
 -- what a diagnosis goes by: a table, and the cases held against it
 pub record Evidence : Type 0 where
@@ -93,5 +92,5 @@ pub record ListAnswers (b : Evidence) (lent : List ℕ) (answer : Listed) : Type
   pub verdict : Verdict
   pub count : ℕ
   pub left : List ℕ
-  pub answered : answer ≡ listed (Faults verdict count) left
+  pub answered : answer ≡ listed (faults verdict count) left
   pub lists : Lists b lent verdict count left

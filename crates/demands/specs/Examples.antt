@@ -1,14 +1,14 @@
 -- The numbers to check that document 01 marks P ("Product tables and numbers to check"), one row each, under one claim: of every session that
 -- was started with a table file, and to which calls were then made.
-use Rattle.std.specs.Prelude.{ℕ, ◌≤◌, ◌<◌, ◌≡◌, List, [], ◌∷◌, ◌++◌, length, get_or}
+use Rattle.std.specs.Prelude.{ℕ, ◌≤◌, ◌<◌, ◌≡◌, List, [], ◌∷◌, ◌++◌, length, get_or, Ok, Result}
 use Rattle.shapes.specs.Edit.{edit, filled}
 use Rattle.shapes.specs.Keep.{has, bit}
 use Rattle.machine.specs.Limits.{cells_most}
 use Rattle.machine.specs.Head.{numbers}
 use Rattle.machine.specs.Run.{expected}
+use Rattle.house.specs.declared.refusal.Refusal.{Refusal}
 use Rattle.house.specs.Refusal.{wrote}
 use Rattle.house.specs.Table.{table_file}
-use Rattle.house.specs.declared.refusal.Answer.TheVariants.{Done}
 use Rattle.product.specs.Tables.{product_head, product_cells}
 use Rattle.product.specs.declared.Product.TheVariants.{FiveLitre, EightLitre}
 use Rattle.diagnosis.specs.declared.Verdict.{Verdict}
@@ -16,10 +16,9 @@ use Rattle.diagnosis.specs.declared.Verdict.TheVariants as verdicts
 use Rattle.memory.specs.Layout.{session_size, tallies_size, head_of}
 use Rattle.session.specs.Calls.{offered, start_call}
 use Rattle.session.specs.History.{Call, add, withdraw, memory, left, called_all, Memory, answer_of, answered, called}
-use Rattle.reading.specs.Reads.{machine_of, Listed, listed, list_call}
+use Rattle.reading.specs.Reads.{machine_of, Listed, listed, list_call, faults}
 use Rattle.report.specs.Reports.{conflict_call}
 use Rattle.reading.specs.declared.list.Listing.{Listing}
-use Rattle.reading.specs.declared.list.Listing.TheVariants.{Faults}
 
 -- the table files of the five-litre and of the eight-litre product
 abbrev pub five : List ℕ
@@ -51,22 +50,22 @@ calls_p7 = calls_p6 ++ (withdraw 0 ∷ [])
 abbrev pub calls_p8 : List Call
 calls_p8 = case (1 ∷ 2 ∷ 1 ∷ []) seen (3 ∷ 0 ∷ 2 ∷ []) ∷ []
 
--- each of some calls on a memory, one after the other, answers Done
+-- each of some calls on a memory, one after the other, answers Ok
 abbrev pub AllDone : List Call → Memory → Type 0
 AllDone [] x = Unit {0}
-AllDone (c ∷ cs) x = ((n : ℕ) × (answered c x ≡ Done n)) × AllDone cs (called c x)
+AllDone (c ∷ cs) x = ((n : ℕ) × (answered c x ≡ Ok n)) × AllDone cs (called c x)
 
 -- what is so of every session that is started with a table file in any memory with room, and to which calls are then made: the start and each call
--- answer Done, and of what they leave it is so
+-- answer Ok, and of what they leave it is so
 abbrev pub InSession : List ℕ → List Call → (List ℕ → List ℕ → Type 0) → Type 0
 InSession file calls So =
     (s t : List ℕ) → session_size ≤ length s → tallies_size ≤ length t
-    → (answer_of (start_call s t file) ≡ Done 0)
+    → (answer_of (start_call s t file) ≡ Ok 0)
     × AllDone calls (left (start_call s t file))
     × ((s' t' : List ℕ) → called_all calls (left (start_call s t file)) ≡ memory s' t' → So s' t')
 
 -- what a list call answers, whatever it leaves
-abbrev pub listing : Listed → Listing
+abbrev pub listing : Listed → Result Listing Refusal
 listing (listed a left) = a
 
 -- what a row says of a table file and calls
@@ -89,12 +88,12 @@ abbrev pub Holds : Example → Type 0
 Holds (gives file is ys) = InSession file [] (λ s t. expected (machine_of s) is ≡ ys)
 Holds (diagnoses file calls v l) =
     InSession file calls
-    (λ s t. (out : List ℕ) → length l ≤ length out → list_call s t out ≡ listed (Faults v (length l)) (filled out 0 l))
+    (λ s t. (out : List ℕ) → length l ≤ length out → list_call s t out ≡ listed (faults v (length l)) (filled out 0 l))
 Holds (counts_listed file calls v n) =
-    InSession file calls (λ s t. (out : List ℕ) → n ≤ length out → listing (list_call s t out) ≡ Faults v n)
+    InSession file calls (λ s t. (out : List ℕ) → n ≤ length out → listing (list_call s t out) ≡ faults v n)
 Holds (has_conflict file calls p cells) =
     InSession file calls
-    (λ s t. (out : List ℕ) → cells_most ≤ length out → conflict_call s t p out ≡ wrote (Done 0) (edit (λ c old. bit (has c cells)) 0 cells_most out))
+    (λ s t. (out : List ℕ) → cells_most ≤ length out → conflict_call s t p out ≡ wrote (Ok 0) (edit (λ c old. bit (has c cells)) 0 cells_most out))
 Holds (has_tally file calls f k) = InSession file calls (λ s t. get_or t f 0 ≡ k)
 Holds (all_tallies file calls n k) =
     InSession file calls (λ s t. (numbers (head_of s) ≡ n) × ((f : ℕ) → f < n → get_or t f 0 ≡ k))

@@ -50,10 +50,10 @@ a_symptom M c s e some =
     (bad, rw e (first_inside M c bad))
 
 -- the first inputs of a case are a head's
-pub input_in : (h : Head) (is ys : List ℕ) → CaseIn h is ys → (n t : ℕ) → t < min n (length is) → get_or (take n is) t 0 < h.inputs
+input_in : (h : Head) (is ys : List ℕ) → CaseIn h is ys → (n t : ℕ) → t < min n (length is) → get_or (take n is) t 0 < h.inputs
 input_in h is ys k n t below = rw (get_or-take n is t 0 (omega arith)) (case_step h is ys k t (omega arith))
 
-inputs_in : (h : Head) (is ys : List ℕ) → CaseIn h is ys → (n : ℕ) → InputsIn h (take n is)
+pub inputs_in : (h : Head) (is ys : List ℕ) → CaseIn h is ys → (n : ℕ) → InputsIn h (take n is)
 inputs_in h is ys k n t below = input_in h is ys k n t (rw length-take at below)
 
 -- of a 0 or 1 that was marked the sweep leaves what it was, and of another nothing

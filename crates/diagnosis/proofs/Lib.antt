@@ -1,4 +1,5 @@
 pub mod Conflicts
+pub mod Parts
 pub mod Walks
 pub mod Lists
 pub mod Candidates

@@ -1,5 +1,5 @@
 -- What held cases say: over a head, the cells of its table and any list of cases (document 01, "Symptoms, conflict sets, verdict", "Fault numbers").
-use Rattle.std.specs.Prelude.{ℕ, ◌+◌, List, [], ◌∷◌, Bool, true, false, not, ◌&&◌, ◌||◌, take}
+use Rattle.std.specs.Prelude.{ℕ, ◌+◌, List, [], ◌∷◌, Bool, true, false, not, ◌&&◌, ◌||◌, take, codes}
 use Rattle.shapes.specs.Edit.{edit}
 use Rattle.shapes.specs.Keep.{keep_to, has, bit, count, every, some}
 use Rattle.machine.specs.Limits.{cells_most}
@@ -49,6 +49,12 @@ abbrev pub verdict_of : Bool → List ℕ → Verdict
 verdict_of false l = verdicts.Clear
 verdict_of true [] = verdicts.None
 verdict_of true (f ∷ l) = verdicts.Found
+
+-- and how it is written
+abbrev pub verdict_text : Verdict → List ℕ
+verdict_text verdicts.Clear = codes "CLEAR"
+verdict_text verdicts.Found = codes "FOUND"
+verdict_text verdicts.None = codes "NONE"
 
 -- "the set of cells that the specified path executes from step 0 up to and with the first symptom; for a passing case it is empty"
 unfoldable pub conflicts : Machine → Case → ℕ → Bool

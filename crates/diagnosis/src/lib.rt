@@ -2,21 +2,22 @@
 // It rests on the machine's definition of a run and its laws, and on no byte of a cell.
 #![tactic(auto)]
 
-ghost use Rattle.std.specs.Prelude.{◌≡◌, ◌<◌, ◌≤◌, length};
+ghost use Rattle.std.specs.Prelude.{◌≡◌, ◌<◌, ◌≤◌, length, Some};
 ghost use Rattle.machine.specs.Limits.{cells_most};
 ghost use Rattle.machine.specs.Head.{numbers};
-ghost use Rattle.machine.specs.Cell.{TableIn};
-ghost use Rattle.machine.specs.Machine.{specified};
-ghost use Rattle.machine.specs.Case.{CaseIn, as_case};
-ghost use Rattle.diagnosis.specs.Diagnosis.{fails, misses, conflict_bytes};
-ghost use Rattle.diagnosis.specs.Loops.{spread, narrowed, swept, swept_all, Bits, Walked};
+ghost use Rattle.machine.specs.Runs.{run_machine, run_case};
+ghost use Rattle.diagnosis.specs.Diagnosis.{fails, misses, verdict_text, conflict_bytes};
+ghost use Rattle.diagnosis.specs.Loops.{spread, narrowed, swept, swept_all, Bits};
 
-use machine::fault::Fault;
 use machine::head::Head;
-use machine::replay::{is_expected, is_reproduced, mark_executed, symptoms_of};
+use machine::replay::{Run, mark_executed};
+use std::fmt;
+
+// A run that was walked once, to be asked of many fault numbers.
+pub mod walk;
 
 // What the held cases say together.
-#[derive(Clone, Copy)]
+#[derive(Clone, Copy, Debug, PartialEq, Eq)]
 pub enum Verdict {
     // No case fails.
     Clear,
@@ -26,46 +27,31 @@ pub enum Verdict {
     None,
 }
 
-// Whether a case fails.
-pub fn is_failing(head: Head, cells: &[u8], inputs: &[u8], outputs: &[u8]) -> bool
-    requires table_in { TableIn head cells.now }
-    requires case_in { CaseIn head inputs.now outputs.now }
-    ensures { result ≡ fails (specified head cells.now) (as_case inputs.now outputs.now) }
-{
-    !is_expected(head, cells, inputs, outputs)
-}
+impl fmt::Display for Verdict {
+    ghost output = { λ verdict. Some (verdict_text verdict) };
 
-// Whether a number's machine fails to reproduce a case.
-pub fn is_missed(head: Head, cells: &[u8], number: usize, inputs: &[u8], outputs: &[u8]) -> bool
-    requires table_in { TableIn head cells.now }
-    requires number_bound { number < numbers head }
-    requires case_in { CaseIn head inputs.now outputs.now }
-    ensures { result ≡ misses head cells.now number (as_case inputs.now outputs.now) }
-{
-    !is_reproduced(head, cells, number, inputs, outputs)
-}
-
-// The same of a walked case: a number on a cell that the specified path never executes answers as the specified machine does.
-pub fn is_missed_walked(
-    head: Head,
-    cells: &[u8],
-    number: usize,
-    inputs: &[u8],
-    outputs: &[u8],
-    failing: bool,
-    marks: &[u8],
-) -> bool
-    requires table_in { TableIn head cells.now }
-    requires number_bound { number < numbers head }
-    requires case_in { CaseIn head inputs.now outputs.now }
-    requires walked { Walked (specified head cells.now) (as_case inputs.now outputs.now) failing marks.now }
-    ensures { result ≡ misses head cells.now number (as_case inputs.now outputs.now) }
-{
-    let cell = Fault::numbered(head, number).cell;
-    if marks[cell] == 0 {
-        return failing;
+    fn fmt<W: fmt::Write>(&self, f: &mut fmt::Formatter<W>) -> fmt::Result {
+        f.write_str(match self {
+            Verdict::Clear => "CLEAR",
+            Verdict::Found => "FOUND",
+            Verdict::None => "NONE",
+        })
     }
-    is_missed(head, cells, number, inputs, outputs)
+}
+
+// Whether a run's case fails.
+pub fn is_failing(run: &Run<'_>) -> bool
+    ensures { result ≡ fails (run_machine run.now) (run_case run.now) }
+{
+    !run.is_expected()
+}
+
+// Whether a number's machine fails to reproduce a run's case.
+pub fn is_missed(run: &Run<'_>, number: usize) -> bool
+    requires { number < numbers run.now.table.head }
+    ensures { result ≡ misses run.now.table.head run.now.table.cells.now number (run_case run.now) }
+{
+    !run.is_reproduced(number)
 }
 
 // Writes one value at all 256 cells.
@@ -73,18 +59,14 @@ pub fn fill(out: &mut [u8], value: u8)
     requires { cells_most ≤ length out.old }
     ensures { out.new ≡ spread value out.old }
 {
-    let mut cell = 0;
-    while cell < Head::CELLS {
-        out[cell] = value;
-        cell += 1;
-    }
+    out[..Head::CELLS].fill(value);
 }
 
 // 1 for a marked 1, else 0.
 fn sweep_one(value: u8) -> u8
     ensures { result ≡ swept value }
 {
-    (value == 3) as u8
+    u8::from(value == 3)
 }
 
 // Keeps a 1 only where it was marked.
@@ -92,40 +74,34 @@ fn sweep(out: &mut [u8])
     requires { cells_most ≤ length out.old }
     ensures { out.new ≡ swept_all out.old }
 {
-    let mut cell = 0;
-    while cell < Head::CELLS {
-        out[cell] = sweep_one(out[cell]);
-        cell += 1;
+    for value in &mut out[..Head::CELLS] {
+        *value = sweep_one(*value);
     }
 }
 
-// Takes one case's conflict set into the candidates: of a failing case, only the cells of its conflict set stay.
-pub fn narrow(head: Head, cells: &[u8], inputs: &[u8], outputs: &[u8], out: &mut [u8])
-    requires table_in { TableIn head cells.now }
-    requires case_in { CaseIn head inputs.now outputs.now }
-    requires bits { Bits out.old }
-    ensures { out.new ≡ narrowed (specified head cells.now) (as_case inputs.now outputs.now) out.old }
+// Takes one run's conflict set into the candidates: of a failing case, only the cells of its conflict set stay.
+pub fn narrow(run: &Run<'_>, out: &mut [u8])
+    requires { Bits out.old }
+    ensures { out.new ≡ narrowed (run_machine run.now) (run_case run.now) out.old }
 {
-    let found = symptoms_of(head, cells, inputs, outputs);
+    let found = run.symptoms();
     if found.count == 0 {
         return;
     }
     let steps = found.first + 1;
-    mark_executed(head, cells, &inputs[0..steps], out);
+    mark_executed(&run.table, &run.inputs[..steps], out);
     sweep(out);
 }
 
-// Writes the conflict set of a case as 256 bytes of 0 or 1.
-pub fn conflict(head: Head, cells: &[u8], inputs: &[u8], outputs: &[u8], out: &mut [u8])
-    requires table_in { TableIn head cells.now }
-    requires case_in { CaseIn head inputs.now outputs.now }
-    requires cells_most_in_bounds { cells_most ≤ length out.old }
-    ensures { out.new ≡ conflict_bytes (specified head cells.now) (as_case inputs.now outputs.now) out.old }
+// Writes the conflict set of a run's case as 256 bytes of 0 or 1.
+pub fn conflict(run: &Run<'_>, out: &mut [u8])
+    requires { cells_most ≤ length out.old }
+    ensures { out.new ≡ conflict_bytes (run_machine run.now) (run_case run.now) out.old }
 {
-    if !is_failing(head, cells, inputs, outputs) {
+    if !is_failing(run) {
         fill(out, 0);
         return;
     }
     fill(out, 1);
-    narrow(head, cells, inputs, outputs, out);
+    narrow(run, out);
 }

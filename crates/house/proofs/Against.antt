@@ -1,38 +1,24 @@
 -- The cases of a record, judged against a head one after the other: what is left to judge says what all of them say. Assumes nothing.
-use Prim.Native.Nat.{ℕ, suc, ◌+◌, ◌-◌, ◌*◌, ◌≤◌, ◌<◌}
-use mathlib.Core.Path.{◌≡◌, refl, sym, ◌∙◌}
+use Prim.Native.Nat.{ℕ, suc, ◌+◌, ◌-◌, ◌≤◌, ◌<◌}
+use mathlib.Core.Path.{◌≡◌, refl, sym, ap, ◌∙◌}
 use mathlib.Core.Bool.{true, ◌&&◌}
 use mathlib.Core.List.{List, [], ◌∷◌, ◌++◌}
 use mathlib.Core.Logic.{◌↔◌}
 use borrow.Author.Tests.{not-false}
-use native.Mathlib.Nat.{sub-zero}
 use native.Mathlib.Omega.{arith}
-use lib.ListN.{length, get_or, take, drop}
+use lib.ListN.{length}
+use Rattle.std.specs.Prelude.{Result, Ok, Err}
 use Rattle.shapes.specs.Keep.{every}
 use Rattle.shapes.specs.Refusals.{ruling, fine, refused}
 use Rattle.shapes.proofs.Refusals.{ruling_end, ruling_join_refused, ruling_join_fine, ruling_joined, fine_when}
 use Rattle.shapes.proofs.Tests.{and_true}
-use Rattle.machine.specs.Case.{Case, as_case, good_case, all_good}
+use Rattle.machine.specs.Case.{Case, good_case, all_good}
 use Rattle.machine.specs.declared.head.Head.{Head}
-use Rattle.house.specs.File.{rest_at}
-use Rattle.house.specs.Cases.{case_end, case_at, count_in, count_of, record_rules, cases_from, cases_in, next_about, case_rules, cases_rules}
-use Rattle.house.specs.Walk.{place_of}
+use Rattle.house.specs.Cases.{cases_most, case_end, case_at, cases_from, next_about, case_rules, cases_rules}
 use Rattle.house.specs.declared.cases.About.{About}
 use Rattle.house.specs.declared.refusal.Refusal.{Refusal}
 use Rattle.house.specs.Refusal.{checked}
-use Rattle.house.specs.declared.refusal.Checked.{Checked}
-use Rattle.house.specs.declared.refusal.Checked.TheVariants.{Fine, Refused}
 use Rattle.house.proofs.Forms.{checked_fine, checked_refused}
-use Rattle.house.proofs.Places.{place_next, place_ends}
-
--- the two parts of a file that a case stands in are the case
-pub case_parts : (file : List ℕ) (at x y i o e : ℕ) → x ≡ get_or file at 0 → y ≡ get_or file at 0 → i ≡ at + 1 → o ≡ i + x → e ≡ o + y
-    → as_case (take (o - i) (drop i file)) (take (e - o) (drop o file)) ≡ case_at file at
-unfolding case_at
-case_parts file at x y i o e ex ey ei eo ee =
-    let n : o - i ≡ get_or file at 0 = omega arith in
-    let m : e - o ≡ get_or file at 0 = omega arith in
-    rw (n, m, eo, ei, ex)
 
 -- where some cases are left to judge, they begin with the one at the place
 pub next_case : (file : List ℕ) (count i at : ℕ) → i < count
@@ -62,56 +48,46 @@ cases_fine h a (c ∷ cs) = go (case_fine h a c) (cases_fine h (next_about a) cs
       λ g. let b = and_true _ _ g in ruling_join_fine (case_rules h a c) _ (one.1 b.0) ∙ rest.1 b.1,
     )
 
--- where judging stands: before case i, at its place, with what is said about it
-pub record Judging (h : Head) (first : About) (file : List ℕ) (count i at : ℕ) (about : About) : Type 0 where
-  pub inside : i ≤ count
-  pub place : at ≡ place_of file i
-  pub position : about.position ≡ first.position + i
-  pub same : ruling (cases_rules h about (cases_from file (count - i) at)) ≡ ruling (cases_rules h first (cases_in file))
+-- so many cases after one in a record
+abbrev pub later_about : About → ℕ → About
+later_about a i = record { position = a.position + i }
 
-module _ (h : Head) (first : About) (file : List ℕ) (count : ℕ) (known : count ≡ count_of (count_in file)) where
+-- where judging stands: i cases were judged, and these are left
+pub record Judging (h : Head) (first : About) (all left : List Case) (i : ℕ) : Type 0 where
+  pub room : i + length left ≤ cases_most
+  pub same : ruling (cases_rules h (later_about first i) left) ≡ ruling (cases_rules h first all)
+
+module _ (h : Head) (first : About) (all left : List Case) (i : ℕ) where
   -- it begins so
-  pub judging_begins : Judging h first file count 0 rest_at first
-  unfolding place_of cases_in
-  judging_begins = record { inside = omega arith; place = refl; position = omega arith; same = rw (sub-zero, known) }
+  pub judging_begins : left ≡ all → i ≡ 0 → length all ≤ cases_most → Judging h first all left i
+  judging_begins e ei few =
+      let z : first.position + 0 ≡ first.position = omega arith in
+      rw (e, ei) (record { room = omega arith; same = ap (λ p. ruling (cases_rules h (record { position = p }) all)) z })
 
-  -- a case that is refused refuses all
-  pub judging_refused : (i at : ℕ) (a : About) (r : Refusal) (c : Case) (x : Checked) → Judging h first file count i at a → i < count
-      → x ≡ checked (ruling (case_rules h a c)) → x ≡ Refused r → c ≡ case_at file at
-      → checked (ruling (cases_rules h first (cases_in file))) ≡ Refused r
-  unfolding cases_rules
-  judging_refused i at a r c x j l ex er ec =
-      let e : ruling (case_rules h a (case_at file at)) ≡ refused r = rw ec at (checked_refused (ruling (case_rules h a c)) (sym ex ∙ er)) in
-      let all : ruling (cases_rules h first (cases_in file)) ≡ refused r =
-      sym j.same ∙ rw (next_case file count i at l) (ruling_join_refused (case_rules h a (case_at file at)) _ r e) in
-      rw all
+  module _ (n : ℕ) (c : Case) (rest : List Case) (x : Result (Unit {0}) Refusal)
+      (j : Judging h first all left i) (en : n ≡ i) (el : left ≡ c ∷ rest) (ex : x ≡ checked (ruling (case_rules h (later_about first n) c))) where
+    -- what is said of the next case
+    next_said : next_about (later_about first i) ≡ later_about first (i + 1)
+    next_said = let e : first.position + i + 1 ≡ first.position + (i + 1) = omega arith in ap (λ p. record { position = p }) e
 
-  -- one that is not leaves it to the next
-  pub judging_goes_on : (i at end n m : ℕ) (a : About) (c : Case) (x : Checked) → Judging h first file count i at a → i < count
-      → n ≡ get_or file at 0 → m ≡ get_or file at 0 → end ≡ at + 1 + n + m → x ≡ checked (ruling (case_rules h a c)) → x ≡ Fine
-      → c ≡ case_at file at → Judging h first file count (i + 1) end (next_about a)
-  unfolding cases_rules
-  judging_goes_on i at end n m a c x j l en em ee ex er ec =
-      let e : ruling (case_rules h a (case_at file at)) ≡ fine = rw ec at (checked_fine (ruling (case_rules h a c)) (sym ex ∙ er)) in
-      let same_end : end ≡ at + 1 + 2 * n = omega arith in
-      let here = j.position in
-      rw same_end
-      (record {
-        inside = omega arith;
-        place = place_next file i at n j.place en;
-        position = omega arith;
-        same =
-            rw en
-            (sym (ruling_join_fine (case_rules h a (case_at file at)) (cases_rules h (next_about a) (cases_from file (count - (i + 1)) (case_end file at))) e)
-            ∙ (rw (next_case file count i at l) at j.same));
-      })
+    -- a case that is refused refuses all
+    pub judging_refused : (r : Refusal) → x ≡ Err r → checked (ruling (cases_rules h first all)) ≡ Err r
+    unfolding cases_rules
+    judging_refused r er =
+        let one : ruling (case_rules h (later_about first i) c) ≡ refused r = rw en at (checked_refused (ruling (case_rules h (later_about first n) c)) (sym ex ∙ er)) in
+        rw (← j.same, el, ruling_join_refused (case_rules h (later_about first i) c) (cases_rules h (next_about (later_about first i)) rest) r one)
+
+    -- one that is not leaves it to the next
+    pub judging_goes_on : (k : ℕ) → k ≡ i + 1 → x ≡ Ok tt → Judging h first all rest k
+    unfolding cases_rules
+    judging_goes_on k ek er =
+        let one : ruling (case_rules h (later_about first i) c) ≡ fine = rw en at (checked_fine (ruling (case_rules h (later_about first n) c)) (sym ex ∙ er)) in
+        rw ek (record {
+          room = omega (arith, j.room, ap length el);
+          same = ap (λ b. ruling (cases_rules h b rest)) (sym next_said) ∙ sym (ruling_join_fine (case_rules h (later_about first i) c) (cases_rules h (next_about (later_about first i)) rest) one) ∙ rw el at j.same;
+        })
 
   -- and where none is left nothing was wrong
-  pub judging_ends : (i at : ℕ) (a : About) → Judging h first file count i at a → count ≤ i → ruling (cases_rules h first (cases_in file)) ≡ fine
-  unfolding cases_from cases_rules
-  judging_ends i at a j l = let e : count - i ≡ 0 = omega arith in sym (rw e at j.same) ∙ ruling_end
-
--- a case before the count ends inside the file
-pub case_inside : (file : List ℕ) → ruling (record_rules file) ≡ fine → (count i at : ℕ) → count ≡ count_of (count_in file) → at ≡ place_of file i
-    → i < count → at + 1 + 2 * get_or file at 0 ≤ length file
-case_inside file ok count i at known place l = rw place (place_ends file ok i (rw (← known) l))
+  pub judging_ends : Judging h first all left i → left ≡ [] → ruling (cases_rules h first all) ≡ fine
+  unfolding cases_rules
+  judging_ends j e = sym (rw e at j.same) ∙ ruling_end

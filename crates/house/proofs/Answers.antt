@@ -3,9 +3,11 @@
 use mathlib.Core.Path.{◌≡◌, refl, sym, ◌∙◌}
 use mathlib.Core.List.{List}
 use Prim.Native.Nat.{ℕ}
-use Rattle.shapes.specs.OneAnswer.{OneAnswer}
+use Rattle.shapes.specs.OneAnswer.{OneAnswer, OneReading}
 use Rattle.house.specs.Refusal.{wrote}
-use Rattle.house.specs.declared.refusal.Answer.{Answer}
+use Rattle.std.specs.Prelude.{Result}
+use Rattle.house.specs.Left.{Part, parts_left}
+use Rattle.house.specs.declared.refusal.Refusal.{Refusal}
 use Rattle.house.proofs.refusal.Refusal.number.Kinds as refusal_number_kinds
 use Rattle.house.proofs.refusal.Refusal.number.Reads as refusal_number_reads
 use Rattle.house.proofs.refusal.Refusal.carried.Kinds as refusal_carried_kinds
@@ -26,9 +28,11 @@ use Rattle.house.proofs.cases.check_case.Kinds as check_case_kinds
 use Rattle.house.proofs.cases.check_case.Reads as check_case_reads
 use Rattle.house.proofs.cases.check_cases.Kinds as check_cases_kinds
 use Rattle.house.proofs.cases.check_cases.Reads as check_cases_reads
+use Rattle.house.proofs.record.Record.cases.Kinds as record_cases_kinds
+use Rattle.house.proofs.record.Record.cases.Reads as record_cases_reads
 
 -- what was written has one answer and leaves one list
-pub wrote_one : {r s : Answer} {l k : List ℕ} → wrote r l ≡ wrote s k → (r ≡ s) × (l ≡ k)
+pub wrote_one : {r s : Result ℕ Refusal} {l k : List ℕ} → wrote r l ≡ wrote s k → (r ≡ s) × (l ≡ k)
 wrote_one e = (cc, cc)
 
 pub refusal_number_one : OneAnswer refusal_number_kinds.ps refusal_number_kinds.r refusal_number_reads.Post
@@ -60,3 +64,7 @@ check_case_one κs a z z' ws ws' p q = (p ∙ sym q, refl)
 
 check_cases_one : OneAnswer check_cases_kinds.ps check_cases_kinds.r check_cases_reads.Post
 check_cases_one κs a z z' ws ws' p q = (p ∙ sym q, refl)
+
+-- the cases that are left to take
+record_cases_one : OneReading {A = List Part} record_cases_kinds.ps record_cases_kinds.r (λ κs z. parts_left z) record_cases_reads.Post
+record_cases_one κs a z z' ws ws' p q = (p ∙ sym q, refl)

@@ -1,29 +1,41 @@
 -- What a check's answer says of its rules' ruling, and what a file is that the rules for every file do not refuse.
 -- Assumes nothing.
 use Prim.Native.Nat.{ℕ, ◌-◌, ◌/◌, ◌%◌, ◌≤◌}
-use mathlib.Core.Path.{◌≡◌, refl, sym}
+use mathlib.Core.Path.{◌≡◌, refl, sym, ap, ◌∙◌}
 use mathlib.Core.List.{List}
 use borrow.Author.Tests.{ltb-false, eqb-true, not-false, le-ltb, eq-eqb}
 use native.Mathlib.Omega.{arith}
 use lib.ListN.{length, get_or, drop, length-drop}
+use Rattle.std.specs.Prelude.{Result, Ok, Err, IsErrAnd}
+use Rattle.std.proofs.lemmas.Result.{err_from_is_err_and}
 use Rattle.shapes.specs.Refusals.{Ruling, fine, refused, ruling}
 use Rattle.shapes.proofs.Refusals.{fine_when}
 use Rattle.shapes.proofs.Edit.{drop_three}
 use Rattle.house.specs.Bytes.{Bytes}
 use Rattle.house.specs.File.{rest_at, two_bytes, file_rules, file_head, file_of}
-use Rattle.house.specs.Refusal.{checked}
-use Rattle.house.specs.declared.refusal.Checked.TheVariants.{Fine, Refused}
+use Rattle.house.specs.Refusal.{ruled, checked}
 use Rattle.house.specs.declared.refusal.Refusal.{Refusal}
 
--- a check that finds nothing wrong says that no rule refuses
-pub checked_fine : (v : Ruling Refusal) → checked v ≡ Fine → v ≡ fine
-checked_fine fine e = refl
-checked_fine (refused r) e = cc
+-- an answer that refuses says what the rules refuse with,
+pub ruled_refused : {A : Type 0} (v : Ruling Refusal) (a : A) {r : Refusal} → ruled v a ≡ Err r → v ≡ refused r
+ruled_refused fine a e = cc
+ruled_refused (refused q) a e = cc
 
--- a check that refuses says what the rules refuse with
-pub checked_refused : (v : Ruling Refusal) {r : Refusal} → checked v ≡ Refused r → v ≡ refused r
-checked_refused fine e = cc
-checked_refused (refused q) e = cc
+-- and any other answer says that no rule refuses, and is what there was to answer
+pub ruled_passed : {A : Type 0} (v : Ruling Refusal) (a : A) {b : A} → ruled v a ≡ Ok b → (v ≡ fine) × (b ≡ a)
+ruled_passed fine a e = (refl, cc)
+ruled_passed (refused q) a e = (cc, cc)
+
+-- a refusal that is passed on is the one that was met
+pub passed_on : {A : Type 0} (x : Result A Refusal) {r : Refusal} → IsErrAnd x (λ e. e ≡ r) → x ≡ Err r
+passed_on x h = let p = err_from_is_err_and x h in p.1 ∙ ap Err p.2
+
+-- so it is with a check
+pub checked_fine : (v : Ruling Refusal) → checked v ≡ Ok tt → v ≡ fine
+checked_fine v e = (ruled_passed v tt e).0
+
+pub checked_refused : (v : Ruling Refusal) {r : Refusal} → checked v ≡ Err r → v ≡ refused r
+checked_refused v e = ruled_refused v tt e
 
 -- a file that is not refused has the version and the length of the rest where they belong
 pub file_known : (v : ℕ) (file : List ℕ) → ruling (file_rules v file) ≡ fine

@@ -8,34 +8,26 @@ use mathlib.Core.Bool.{Bool, true, false, cond}
 use native.Mathlib.Nat.{zero-add, add-zero, sub-zero}
 use native.Mathlib.Numerals.{add-one}
 use native.Mathlib.Omega.{arith}
-use borrow.Author.Tests.{lt-ltb, le-ltb, le-leb, lt-leb, leb-true, leb-false}
-use lib.Dec.{ltb, leb}
+use borrow.Author.Tests.{le-leb, lt-leb, leb-true}
+use lib.Dec.{leb}
 use lib.ListN.{length, take, drop, set, length-append, length-drop, take-append-drop, drop_of_length-le}
 use lib.Seq.{length-take-le, drop-cons, drop-drop, take-append_seam, drop-append-add, get_or-append_seam, take_at, drop_at}
+use Rattle.std.specs.Option.{ok_or}
+use Rattle.std.specs.Prelude.{Option, Some, None, Ok, Err}
 use Rattle.shapes.specs.Edit.{filled, place_after}
 use Rattle.shapes.proofs.Edit.{filled_one, filled_append}
-use Rattle.shapes.specs.Refusals.{Ruling, fine, refused, ruling}
+use Rattle.shapes.specs.Refusals.{fine, refused, ruling, when}
 use Rattle.shapes.proofs.Refusals.{ruling_join_refused, ruling_join_fine, ruling_joined, fine_when}
 use Rattle.shapes.proofs.Tests.{and_true}
 use Rattle.machine.specs.Limits.{steps_most}
 use Rattle.house.specs.File.{version, rest_at, file_rules, file_head, file_of}
 use Rattle.house.specs.Bytes.{Bytes}
 use Rattle.machine.specs.Case.{Case}
-use Rattle.house.specs.Cases.{case_bytes, rest_of, record_file, Recordable, AllRecordable, case_at, cases_from, cases_in, cases_most, steps_at, case_end, case_fits, count_from, count_in, is_broken, count_of, record_rules, record_or, record_read}
+use Rattle.house.specs.Cases.{case_bytes, rest_of, record_file, Recordable, AllRecordable, case_at, cases_from, cases_in, cases_most, steps_at, case_end, case_fits, count_from, count_in, is_broken, count_of, record_rules, record_read}
 use Rattle.house.specs.declared.refusal.Refusal.{Refusal}
+use Rattle.house.specs.Refusal.{ruled}
 use Rattle.house.specs.declared.refusal.Refusal as Refusal_type
-use Rattle.house.specs.declared.cases.RecordFile.TheVariants.{Record, Refused}
-use Rattle.house.specs.declared.cases.Counted.{Counted}
-use Rattle.house.specs.declared.cases.Counted.TheVariants.{Cases, Broken}
-use Rattle.house.proofs.Forms.{file_of_fine, file_of_rest}
-
--- the code's test that a case ends within the file is the definition's
-pub ends_within : (at steps n : ℕ) → ltb (2 * steps) (n - at) ≡ leb (at + 1 + 2 * steps) n
-ends_within at steps n = go (leb (at + 1 + 2 * steps) n) refl
-  where
-    go : (b : Bool) → leb (at + 1 + 2 * steps) n ≡ b → ltb (2 * steps) (n - at) ≡ b
-    go true e = lt-ltb (2 * steps) (n - at) (omega (arith, leb-true (at + 1 + 2 * steps) n e))
-    go false e = le-ltb (2 * steps) (n - at) (omega (arith, leb-false (at + 1 + 2 * steps) n e))
+use Rattle.house.proofs.Forms.{file_of_fine, file_of_rest, ruled_refused, ruled_passed}
 
 -- a case that fits has 1 to 64 steps and ends within the file ..
 pub case_fits_law : (file : List ℕ) (at : ℕ) → case_fits file at ≡ true
@@ -53,18 +45,18 @@ unfolding case_fits
 fits_case file at h = rw (le-leb _ _ h.0, le-leb _ _ h.1.0, le-leb _ _ h.1.1)
 
 -- a loop's end: nothing more stands there
-pub count_ended : (file : List ℕ) (left at n : ℕ) → length file ≤ at → count_from file left at n ≡ Cases n
+pub count_ended : (file : List ℕ) (left at n : ℕ) → length file ≤ at → count_from file left at n ≡ Some n
 unfolding count_from
 count_ended file zero at n h = rw (le-leb _ _ h)
 count_ended file (suc left) at n h = rw (le-leb _ _ h)
 
 -- no case may be left, and something stands there
-pub count_full : (file : List ℕ) (at n : ℕ) → n ≡ cases_most → at < length file → count_from file (cases_most - n) at n ≡ Broken
+pub count_full : (file : List ℕ) (at n : ℕ) → n ≡ cases_most → at < length file → count_from file (cases_most - n) at n ≡ None
 unfolding count_from
 count_full file at n all h = let d : 64 - n ≡ 0 = omega arith in rw (d, lt-leb _ _ h)
 
 -- what stands there is no case
-pub count_broken : (file : List ℕ) (left at n : ℕ) → at < length file → case_fits file at ≡ false → count_from file left at n ≡ Broken
+pub count_broken : (file : List ℕ) (left at n : ℕ) → at < length file → case_fits file at ≡ false → count_from file left at n ≡ None
 unfolding count_from
 count_broken file zero at n h e = rw (lt-leb _ _ h)
 count_broken file (suc left) at n h e = rw (lt-leb _ _ h, e)
@@ -111,84 +103,73 @@ case_written out one two at c d e =
 
 module _ (file : List ℕ) where
   -- a file that the rules for every file refuse is refused so
-  pub record_file_refused : {r : Refusal} → ruling (file_rules version file) ≡ refused r → record_read file ≡ Refused r
+  pub record_file_refused : {r : Refusal} → ruling (file_rules version file) ≡ refused r → record_read file ≡ Err r
   unfolding record_read record_rules
   record_file_refused e = rw (ruling_join_refused (file_rules version file) _ _ e)
 
-  -- a file that those let pass is refused where its cases are broken,
-  pub read_broken : ruling (file_rules version file) ≡ fine → count_in file ≡ Broken → record_read file ≡ Refused Refusal_type.TheVariants.Record
+  -- a file that those let pass is refused where its cases are broken, and is else a record, with the cases counted
+  pub read_counted : ruling (file_rules version file) ≡ fine → ok_or (count_in file) Refusal_type.TheVariants.Record ≡ record_read file
   unfolding record_read record_rules ruling
-  read_broken e d = rw (ruling_join_fine (file_rules version file) _ e, d)
-
-  -- else it is a record, with the cases counted
-  pub read_counted : {n : ℕ} → ruling (file_rules version file) ≡ fine → count_in file ≡ Cases n → record_read file ≡ Record n
-  unfolding record_read record_rules ruling
-  read_counted e d = rw (ruling_join_fine (file_rules version file) _ e, d)
-
--- an answer that refuses says what the rules refuse with,
-record_or_refused : (v : Ruling Refusal) (m : ℕ) {r : Refusal} → record_or v m ≡ Refused r → v ≡ refused r
-record_or_refused fine m e = cc
-record_or_refused (refused q) m e = cc
-
--- and one of a count says that no rule refuses
-or_counted : (v : Ruling Refusal) (m : ℕ) {n : ℕ} → record_or v m ≡ Record n → (v ≡ fine) × (n ≡ m)
-or_counted fine m e = (refl, cc)
-or_counted (refused q) m e = (cc, cc)
+  read_counted e = rw (ruling_join_fine (file_rules version file) _ e) (go (count_in file))
+    where
+      go : (c : Option ℕ) → ok_or c Refusal_type.TheVariants.Record ≡ ruled (ruling (when (is_broken c) Refusal_type.TheVariants.Record ∷ [])) (count_of c)
+      go (Some n) = refl
+      go None = refl
 
 module _ (file : List ℕ) where
   -- a record that is refused is refused by its rules
-  pub rules_refuse : {r : Refusal} → record_read file ≡ Refused r → ruling (record_rules file) ≡ refused r
+  pub rules_refuse : {r : Refusal} → record_read file ≡ Err r → ruling (record_rules file) ≡ refused r
   unfolding record_read
-  rules_refuse e = record_or_refused _ _ e
+  rules_refuse e = ruled_refused _ _ e
 
   -- one that is taken is refused by none, and what is answered is the count of its cases
-  pub rules_pass : {n : ℕ} → record_read file ≡ Record n → (ruling (record_rules file) ≡ fine) × (n ≡ count_of (count_in file))
+  pub rules_pass : {n : ℕ} → record_read file ≡ Ok n → (ruling (record_rules file) ≡ fine) × (n ≡ count_of (count_in file))
   unfolding record_read
-  rules_pass e = or_counted _ _ e
+  rules_pass e = ruled_passed _ _ e
 
   -- a record that its rules do not refuse is a file that is not refused, and its cases are counted
-  pub record_sound : ruling (record_rules file) ≡ fine → (ruling (file_rules version file) ≡ fine) × (count_in file ≡ Cases (count_of (count_in file)))
+  pub record_sound : ruling (record_rules file) ≡ fine → (ruling (file_rules version file) ≡ fine) × (count_in file ≡ Some (count_of (count_in file)))
   unfolding record_rules
   record_sound e = let j = ruling_joined (file_rules version file) _ e in (j.0, go (count_in file) ((fine_when _).0 j.1).0)
     where
-      go : (c : Counted) → is_broken c ≡ false → c ≡ Cases (count_of c)
-      go (Cases n) e = refl
-      go Broken e = cc
+      go : (c : Option ℕ) → is_broken c ≡ false → c ≡ Some (count_of c)
+      go (Some n) e = refl
+      go None e = cc
 
 -- a count that was made where no case may be left was made at the end,
-pub counted_last : (file : List ℕ) (at n m : ℕ) → count_from file zero at n ≡ Cases m → (length file ≤ at) × (n ≡ m)
+pub counted_last : (file : List ℕ) (at n m : ℕ) → count_from file zero at n ≡ Some m → (length file ≤ at) × (n ≡ m)
 unfolding count_from
 counted_last file at n m = go (leb (length file) at) refl
   where
-    go : (b : Bool) → leb (length file) at ≡ b → cond b (Cases n) Broken ≡ Cases m → (length file ≤ at) × (n ≡ m)
+    go : (b : Bool) → leb (length file) at ≡ b → cond b (Some n) None ≡ Some m → (length file ≤ at) × (n ≡ m)
     go true past e = (leb-true _ _ past, cc)
     go false past e = let z : ◌≡◌ {A = ℕ} 0 1 = cc in absurd (omega arith)
 
 -- and where some may be left, at the end or before a case that fits
-pub counted_next : (file : List ℕ) (left at n m : ℕ) → count_from file (suc left) at n ≡ Cases m
-    → ((length file ≤ at) × (n ≡ m)) ⊎ ((case_fits file at ≡ true) × (count_from file left (case_end file at) (suc n) ≡ Cases m))
+pub counted_next : (file : List ℕ) (left at n m : ℕ) → count_from file (suc left) at n ≡ Some m
+    → ((length file ≤ at) × (n ≡ m)) ⊎ ((case_fits file at ≡ true) × (count_from file left (case_end file at) (suc n) ≡ Some m))
 unfolding count_from
 counted_next file left at n m = go (leb (length file) at) (case_fits file at) refl refl
   where
-    more : Counted
+    more : Option ℕ
     more = count_from file left (case_end file at) (suc n)
 
-    go : (b f : Bool) → leb (length file) at ≡ b → case_fits file at ≡ f → cond b (Cases n) (cond f more Broken) ≡ Cases m
-        → ((length file ≤ at) × (n ≡ m)) ⊎ ((case_fits file at ≡ true) × (more ≡ Cases m))
+    go : (b f : Bool) → leb (length file) at ≡ b → case_fits file at ≡ f → cond b (Some n) (cond f more None) ≡ Some m
+        → ((length file ≤ at) × (n ≡ m)) ⊎ ((case_fits file at ≡ true) × (more ≡ Some m))
     go true f past fits e = inl (leb-true _ _ past, cc)
     go false true past fits e = inr (fits, e)
     go false false past fits e = let z : ◌≡◌ {A = ℕ} 0 1 = cc in absurd (omega arith)
 
 -- a count goes up from where it began, and by no more than what may be left
-pub count_bounds : (file : List ℕ) (left at n m : ℕ) → count_from file left at n ≡ Cases m → (n ≤ m) × (m ≤ n + left)
+pub count_bounds : (file : List ℕ) (left at n m : ℕ) → count_from file left at n ≡ Some m → (n ≤ m) × (m ≤ n + left)
 count_bounds file zero at n m e = let k = counted_last file at n m e in omega arith
 count_bounds file (suc left) at n m e = go (counted_next file left at n m e) (count_bounds file left (case_end file at) (suc n) m)
   where
-    more : Counted
+    more : Option ℕ
     more = count_from file left (case_end file at) (suc n)
 
-    go : ((length file ≤ at) × (n ≡ m)) ⊎ ((case_fits file at ≡ true) × (more ≡ Cases m))
-        → (more ≡ Cases m → (suc n ≤ m) × (m ≤ suc n + left)) → (n ≤ m) × (m ≤ n + suc left)
+    go : ((length file ≤ at) × (n ≡ m)) ⊎ ((case_fits file at ≡ true) × (more ≡ Some m))
+        → (more ≡ Some m → (suc n ≤ m) × (m ≤ suc n + left)) → (n ≤ m) × (m ≤ n + suc left)
     go (inl k) rest = omega arith
     go (inr k) rest = let r = rest k.1 in omega arith
 
@@ -198,7 +179,7 @@ unfolding count_in
 record_few file e = omega (arith, count_bounds file cases_most rest_at 0 (count_of (count_in file)) (record_sound file e).1)
 
 -- a record that is taken has the count of cases that is answered, and they are at most 64
-pub record_count : (file : List ℕ) (n : ℕ) → record_read file ≡ Record n → (count_in file ≡ Cases n) × (n ≤ cases_most)
+pub record_count : (file : List ℕ) (n : ℕ) → record_read file ≡ Ok n → (count_in file ≡ Some n) × (n ≤ cases_most)
 record_count file n e = let t = rules_pass file e in rw t.1 ((record_sound file t.0).1, record_few file t.0)
 
 -- so many cases from a place on are so many,
@@ -211,6 +192,10 @@ cases_length file (suc n) at = ap suc (cases_length file n _)
 pub cases_counted : (file : List ℕ) → length (cases_in file) ≡ count_of (count_in file)
 unfolding cases_in
 cases_counted file = cases_length file (count_of (count_in file)) _
+
+-- which are at most 64, where it is taken
+pub cases_few : (file : List ℕ) (n : ℕ) → record_read file ≡ Ok n → length (cases_in file) ≤ cases_most
+cases_few file n e = omega (arith, cases_counted file, record_few file (rules_pass file e).0)
 
 -- a case written after a list, with another list after it: it stands at the place after the first list
 module _ (pre : List ℕ) (c : Case) (rest : List ℕ) where
@@ -260,7 +245,7 @@ module _ (pre : List ℕ) (c : Case) (rest : List ℕ) where
 
 -- the cases written after a list are counted from the place after it ..
 pub count_written : (cs : List Case) (pre : List ℕ) (left n : ℕ) → AllRecordable cs → length cs ≤ left
-    → count_from (pre ++ rest_of cs) left (length pre) n ≡ Cases (n + length cs)
+    → count_from (pre ++ rest_of cs) left (length pre) n ≡ Some (n + length cs)
 unfolding rest_of
 count_written [] pre left n ok few = rw (append-nil, add-zero) (count_ended pre left (length pre) n (omega arith))
 count_written (c ∷ cs) pre zero n ok few = absurd (omega arith)
@@ -280,12 +265,12 @@ cases_written (c ∷ cs) pre ok =
 
 -- a record written from cases reads back as those cases, in order
 pub record_reads_back : (cs : List Case) → length cs ≤ cases_most → AllRecordable cs
-    → (record_read (record_file cs) ≡ Record (length cs)) × (cases_in (record_file cs) ≡ cs)
+    → (record_read (record_file cs) ≡ Ok (length cs)) × (cases_in (record_file cs) ≡ cs)
 unfolding record_file cases_in count_in file_of file_head
 record_reads_back cs few ok =
-    (read_counted (record_file cs) (file_of_fine version (rest_of cs)) count, rw count (cases_written cs (file_head version (length (rest_of cs))) ok))
+    (sym (read_counted (record_file cs) (file_of_fine version (rest_of cs))) ∙ rw count, rw count (cases_written cs (file_head version (length (rest_of cs))) ok))
   where
-    count : count_in (record_file cs) ≡ Cases (length cs)
+    count : count_in (record_file cs) ≡ Some (length cs)
     count = rw zero-add at (count_written cs (file_head version (length (rest_of cs))) cases_most 0 ok few)
 
 -- two parts of a list, one right after the other, and what comes after them are what comes from the first part on
@@ -337,20 +322,20 @@ stand_more file at n m fits few h =
     rw d (rw h.0 (case_there file at fits), (case_recordable file at fits, h.1))
 
 -- the cases that are counted from a place on stand from there to the end
-cases_stand : (file : List ℕ) (left at n m : ℕ) → count_from file left at n ≡ Cases m → Stand file at (cases_from file (m - n) at)
+cases_stand : (file : List ℕ) (left at n m : ℕ) → count_from file left at n ≡ Some m → Stand file at (cases_from file (m - n) at)
 cases_stand file zero at n m e = let k = counted_last file at n m e in stand_ended file at n m k.0 k.1
 cases_stand file (suc left) at n m e = go (counted_next file left at n m e) (cases_stand file left (case_end file at) (suc n) m)
   where
-    more : Counted
+    more : Option ℕ
     more = count_from file left (case_end file at) (suc n)
 
-    go : ((length file ≤ at) × (n ≡ m)) ⊎ ((case_fits file at ≡ true) × (more ≡ Cases m))
-        → (more ≡ Cases m → Stand file (case_end file at) (cases_from file (m - suc n) (case_end file at))) → Stand file at (cases_from file (m - n) at)
+    go : ((length file ≤ at) × (n ≡ m)) ⊎ ((case_fits file at ≡ true) × (more ≡ Some m))
+        → (more ≡ Some m → Stand file (case_end file at) (cases_from file (m - suc n) (case_end file at))) → Stand file at (cases_from file (m - n) at)
     go (inl k) rest = stand_ended file at n m k.0 k.1
     go (inr k) rest = stand_more file at n m k.0 (count_bounds file left (case_end file at) (suc n) m k.1).0 (rest k.1)
 
 -- every record that is taken is the writing of its cases, and they are such as a record can hold
-pub record_writes_back : (file : List ℕ) (n : ℕ) → Bytes file → record_read file ≡ Record n
+pub record_writes_back : (file : List ℕ) (n : ℕ) → Bytes file → record_read file ≡ Ok n
     → (file_of version (rest_of (cases_in file)) ≡ file) × AllRecordable (cases_in file)
 unfolding cases_in count_in
 record_writes_back file n bytes e =

@@ -3,10 +3,10 @@
 use Prim.Native.Nat.{ℕ}
 use mathlib.Core.Path.{◌≡◌, refl}
 use mathlib.Core.List.{List}
+use Rattle.std.specs.Prelude.{Err}
 use Rattle.shapes.specs.Refusals.{Ruling, refused}
 use Rattle.house.specs.Refusal.{PaperRefusals, wrote, written_or}
 use Rattle.house.specs.declared.refusal.Refusal.{Refusal}
-use Rattle.house.specs.declared.refusal.Answer.TheVariants.{Refused}
 
 -- each refusal has the paper's number, and carries what the paper says
 pub paper_refusals : PaperRefusals
@@ -37,5 +37,5 @@ paper_refusals =
     }
 
 -- whatever a call that writes a buffer refuses, it leaves the buffer
-pub refusal_leaves : (v : Ruling Refusal) (r : Refusal) (n : ℕ) (old new : List ℕ) → v ≡ refused r → written_or v n old new ≡ wrote (Refused r) old
+pub refusal_leaves : (v : Ruling Refusal) (r : Refusal) (n : ℕ) (old new : List ℕ) → v ≡ refused r → written_or v n old new ≡ wrote (Err r) old
 refusal_leaves v r n old new e = rw e

@@ -11,25 +11,25 @@ use native.Mathlib.Omega.{arith}
 use lib.Dec.{eqb, ltb}
 use lib.ListN.{length, get_or, set, take, drop, length-drop}
 use lib.Seq.{take_all, get_or-take, length-take-le}
+use Rattle.std.specs.Prelude.{Option, Some, None, Ok, Err}
 use Rattle.shapes.specs.Edit.{filled}
 use Rattle.shapes.proofs.Edit.{filled_append, drop_three}
-use Rattle.shapes.specs.Refusals.{Ruling, fine, refused, ruling, AllFalse, RefusedBy}
+use Rattle.shapes.specs.Refusals.{fine, refused, ruling, AllFalse, RefusedBy}
 use Rattle.shapes.proofs.Refusals.{ruling_here, ruling_join_refused, ruling_join_fine, ruling_joined, refused_when, fine_when}
 use Rattle.shapes.proofs.Tests.{or_false}
 use Rattle.machine.specs.Head.{good_head, made_head, HeadIn, cell_count}
-use Rattle.machine.specs.Cell.{first_bad, TableIn}
+use Rattle.machine.specs.Cell.{first_bad, TableIn, bad_in}
 use Rattle.machine.specs.declared.head.Head.{Head}
-use Rattle.machine.specs.declared.head.MadeHead.{MadeHead}
-use Rattle.machine.specs.declared.head.MadeHead.TheVariants.{Made, Nothing}
 use Rattle.machine.proofs.Cases.{head_in_law, head_good, made_head_law, made_no_head}
 use Rattle.machine.proofs.Sound.{bad_few, bad_same}
 use Rattle.house.specs.Bytes.{Bytes}
 use Rattle.house.specs.File.{version, rest_at, file_rules, file_head, file_of}
-use Rattle.house.specs.Table.{file_cells_at, head_in, cells_in, bad_size, bad_cells, table_rules, table_or, table_read, table_bytes, table_head_bytes, table_file}
+use Rattle.shapes.specs.First.{found}
+use Rattle.shapes.proofs.Found.{found_at, found_past}
+use Rattle.house.specs.Table.{file_cells_at, head_in, cells_in, bad_size, bad_cells, table_rules, table_read, table_bytes, table_head_bytes, table_file}
 use Rattle.house.specs.declared.refusal.Refusal.{Refusal}
 use Rattle.house.specs.declared.refusal.Refusal.TheVariants.{Size, Cell}
-use Rattle.house.specs.declared.table.TableFile.TheVariants.{Table, Refused}
-use Rattle.house.proofs.Forms.{file_of_fine, file_of_rest}
+use Rattle.house.proofs.Forms.{file_of_fine, file_of_rest, ruled_refused, ruled_passed}
 
 -- the head that was made is the one that the file names
 pub record Named (file : List ℕ) (h : Head) : Type 0 where
@@ -38,15 +38,15 @@ pub record Named (file : List ℕ) (h : Head) : Type 0 where
 
 module _ (file : List ℕ) where
   -- three bytes that make a head make the one that the file names
-  pub head_named : {n k m : ℕ} {made : MadeHead} {h : Head} → n ≡ get_or file 3 0 → k ≡ get_or file 4 0 → m ≡ get_or file 5 0
-      → made ≡ made_head n k m → made ≡ Made h → Named file h
+  pub head_named : {n k m : ℕ} {made : Option Head} {h : Head} → n ≡ get_or file 3 0 → k ≡ get_or file 4 0 → m ≡ get_or file 5 0
+      → made ≡ made_head n k m → made ≡ Some h → Named file h
   head_named {h = h} a b c e d =
       let m = made_head_law (get_or file 3 0) (get_or file 4 0) (get_or file 5 0) h (rw (← a, ← b, ← c) (sym e ∙ d)) in
       record { good = m.0; same = m.1 }
 
   -- three bytes that make none are no head
-  pub head_missing : {n k m : ℕ} {made : MadeHead} → n ≡ get_or file 3 0 → k ≡ get_or file 4 0 → m ≡ get_or file 5 0
-      → made ≡ made_head n k m → made ≡ Nothing → good_head (head_in file) ≡ false
+  pub head_missing : {n k m : ℕ} {made : Option Head} → n ≡ get_or file 3 0 → k ≡ get_or file 4 0 → m ≡ get_or file 5 0
+      → made ≡ made_head n k m → made ≡ None → good_head (head_in file) ≡ false
   head_missing a b c e d = made_no_head _ _ _ (rw (← a, ← b, ← c) (sym e ∙ d))
 
   -- the head that was made is within the limits
@@ -86,35 +86,33 @@ module _ (file : List ℕ) where
   cells_room_law n e l = rw (cells_part, length-drop) (omega arith)
 
   -- and the lowest bad cell of that part is the file's
-  pub cells_bad : {h : Head} {b : ℕ} → Named file h → b ≡ first_bad h (take (length file - file_cells_at) (drop file_cells_at file))
-      → b ≡ first_bad (head_in file) (cells_in file)
+  pub cells_bad : {h : Head} {b : Option ℕ} → Named file h → b ≡ bad_in h (take (length file - file_cells_at) (drop file_cells_at file))
+      → b ≡ found (first_bad (head_in file) (cells_in file)) (cell_count (head_in file))
+  unfolding bad_in
   cells_bad n e = e ∙ rw (cells_part, n.same)
 
   -- a file that the rules for every file refuse is refused so
-  pub table_file_refused : {r : Refusal} → ruling (file_rules version file) ≡ refused r → table_read file ≡ Refused r
+  pub table_file_refused : {r : Refusal} → ruling (file_rules version file) ≡ refused r → table_read file ≡ Err r
   unfolding table_read table_rules
   table_file_refused e = rw (ruling_join_refused (file_rules version file) _ _ e)
 
   module _ (e : ruling (file_rules version file) ≡ fine) where
     -- a file that those let pass is refused for its size,
-    pub read_size : bad_size file ≡ true → table_read file ≡ Refused Size
+    pub read_size : bad_size file ≡ true → table_read file ≡ Err Size
     unfolding table_read table_rules
     read_size s = rw (ruling_join_fine (file_rules version file) _ e, ruling_here Size _ s)
 
     -- else for its lowest bad cell,
-    pub read_cell : {h : Head} {b cells : ℕ} → bad_size file ≡ false → Named file h → cells ≡ cell_count h
-        → b ≡ first_bad (head_in file) (cells_in file) → b < cells → table_read file ≡ Refused (Cell b)
+    pub read_cell : {b : ℕ} → bad_size file ≡ false → found (first_bad (head_in file) (cells_in file)) (cell_count (head_in file)) ≡ Some b
+        → table_read file ≡ Err (Cell b)
     unfolding table_read table_rules bad_cells ruling
-    read_cell {b = b} s n c d l =
-        rw (ruling_join_fine (file_rules version file) _ e, s, ← d, lt-ltb b (cell_count (head_in file)) (omega (arith, ap cell_count n.same)))
+    read_cell s d = let b = found_at _ _ d in rw (ruling_join_fine (file_rules version file) _ e, s, lt-ltb _ _ b.1, b.0)
 
     -- else it is a table
-    pub read_fine : {h : Head} {b cells : ℕ} → bad_size file ≡ false → Named file h → cells ≡ cell_count h
-        → b ≡ first_bad (head_in file) (cells_in file) → cells ≤ b → table_read file ≡ Table h
+    pub read_fine : {h : Head} → bad_size file ≡ false → Named file h → found (first_bad (head_in file) (cells_in file)) (cell_count (head_in file)) ≡ None
+        → table_read file ≡ Ok h
     unfolding table_read table_rules bad_cells ruling
-    read_fine {b = b} s n c d l =
-        rw
-        (n.same, ruling_join_fine (file_rules version file) _ e, s, ← d, le-ltb b (cell_count (head_in file)) (omega (arith, ap cell_count n.same)))
+    read_fine s n d = rw (n.same, ruling_join_fine (file_rules version file) _ e, s, le-ltb _ _ (found_past _ _ d))
 
 -- three stores after the head of every file write what stands before the cells
 pub head_written : (out : List ℕ) (h : Head) {last : List ℕ} {cells : ℕ} → last ≡ filled out 0 (file_head version (3 + 2 * cells)) → cells ≡ cell_count h
@@ -122,31 +120,21 @@ pub head_written : (out : List ℕ) (h : Head) {last : List ℕ} {cells : ℕ} �
 unfolding filled table_head_bytes file_head
 head_written out h e c = rw (e, c) (filled_append out 0 (file_head version (3 + 2 * cell_count h)) (h.states ∷ h.inputs ∷ h.outputs ∷ []))
 
--- a reading that refuses says what the rules refuse with,
-table_or_refused : (v : Ruling Refusal) (h : Head) {r : Refusal} → table_or v h ≡ Refused r → v ≡ refused r
-table_or_refused fine h e = cc
-table_or_refused (refused q) h e = cc
-
--- and one that answers a head says that no rule refuses
-or_taken : (v : Ruling Refusal) (g : Head) {h : Head} → table_or v g ≡ Table h → (v ≡ fine) × (h ≡ g)
-or_taken fine g e = (refl, cc)
-or_taken (refused q) g e = (cc, cc)
-
 -- a table file is refused with r exactly if the first of its rules that holds is one of r
-pub table_refused : (file : List ℕ) (r : Refusal) → (table_read file ≡ Refused r) ↔ RefusedBy (table_rules file) r
+pub table_refused : (file : List ℕ) (r : Refusal) → (table_read file ≡ Err r) ↔ RefusedBy (table_rules file) r
 unfolding table_read
 table_refused file r = (
-  λ e. (refused_when (table_rules file) r).0 (table_or_refused _ _ e),
+  λ e. (refused_when (table_rules file) r).0 (ruled_refused _ _ e),
   λ h. let e = (refused_when (table_rules file) r).1 h in rw e,
 )
 
 -- where a table is answered no rule refuses it, and it has the head that the file names
-table_rules_pass : (file : List ℕ) (h : Head) → table_read file ≡ Table h → (ruling (table_rules file) ≡ fine) × (h ≡ head_in file)
+table_rules_pass : (file : List ℕ) (h : Head) → table_read file ≡ Ok h → (ruling (table_rules file) ≡ fine) × (h ≡ head_in file)
 unfolding table_read
-table_rules_pass file h e = or_taken _ _ e
+table_rules_pass file h e = ruled_passed _ _ e
 
 -- so none of its rules holds
-pub table_taken : (file : List ℕ) (h : Head) → table_read file ≡ Table h → (AllFalse (table_rules file)) × (h ≡ head_in file)
+pub table_taken : (file : List ℕ) (h : Head) → table_read file ≡ Ok h → (AllFalse (table_rules file)) × (h ≡ head_in file)
 table_taken file h e = let t = table_rules_pass file h e in ((fine_when (table_rules file)).0 t.0, t.1)
 
 -- a file that SIZE does not refuse names a head and ends with its cells
@@ -167,7 +155,7 @@ cells_known file e =
     omega (arith, bad_few (head_in file) (cells_in file))
 
 -- what is known of a table that was read: its head and cells are a table's, and the file ends with them
-pub table_known : (file : List ℕ) (h : Head) → table_read file ≡ Table h → (TableIn h (cells_in file)) × (length file ≡ table_bytes h)
+pub table_known : (file : List ℕ) (h : Head) → table_read file ≡ Ok h → (TableIn h (cells_in file)) × (length file ≡ table_bytes h)
 unfolding table_rules file_rules
 table_known file h e =
     let t = table_taken file h e in
@@ -181,7 +169,7 @@ table_known file h e =
     rw t.1 (known, l)
 
 -- and the rules for every file do not refuse it
-table_file_fine : (file : List ℕ) (h : Head) → table_read file ≡ Table h → ruling (file_rules version file) ≡ fine
+table_file_fine : (file : List ℕ) (h : Head) → table_read file ≡ Ok h → ruling (file_rules version file) ≡ fine
 unfolding table_rules
 table_file_fine file h e = (ruling_joined (file_rules version file) _ (table_rules_pass file h e).0).0
 
@@ -199,12 +187,16 @@ cut_sound h cells e = bad_same h (take (2 * cell_count h) cells) cells (λ i l. 
 
 -- a table that was written is read back as itself
 pub table_reads_back : (h : Head) (cells : List ℕ) → TableIn h cells
-    → (table_read (table_file h cells) ≡ Table h) × (cells_in (table_file h cells) ≡ take (2 * cell_count h) cells)
+    → (table_read (table_file h cells) ≡ Ok h) × (cells_in (table_file h cells) ≡ take (2 * cell_count h) cells)
 unfolding table_file table_head_bytes file_head
-table_reads_back h cells t = (read_fine file passes (size_right file named refl size) named refl (sym (cut_sound h cells t.sound)) (omega arith), refl)
+table_reads_back h cells t =
+    (read_fine file passes (size_right file named refl size) named none, refl)
   where
     file : List ℕ
     file = table_file h cells
+
+    none : found (first_bad (head_in file) (cells_in file)) (cell_count (head_in file)) ≡ None
+    none = rw (cut_sound h cells t.sound, le-ltb (cell_count h) (cell_count h) (omega arith))
 
     passes : ruling (file_rules version file) ≡ fine
     passes = rw (file_of_table h cells t.room) (file_of_fine _ _)
@@ -216,7 +208,7 @@ table_reads_back h cells t = (read_fine file passes (size_right file named refl 
     size = omega (arith, length-take-le (2 * cell_count h) cells t.room)
 
 -- a table that was read is written back as the same file
-pub table_writes_back : (file : List ℕ) (h : Head) → Bytes file → table_read file ≡ Table h → table_file h (cells_in file) ≡ file
+pub table_writes_back : (file : List ℕ) (h : Head) → Bytes file → table_read file ≡ Ok h → table_file h (cells_in file) ≡ file
 table_writes_back file h b e =
     let k = table_known file h e in
     let l = k.1 in

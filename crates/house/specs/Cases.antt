@@ -1,6 +1,6 @@
 -- The record file: "zero to 64 cases, each a length byte L of 1 to 64, L inputs, L observed outputs."
-use Rattle.std.specs.Prelude.{ℕ, zero, suc, ◌+◌, ◌*◌, ◌≤◌, ◌≡◌, List, [], ◌∷◌, ◌++◌, Bool, true, false, cond, not, ◌&&◌, leb, length, get_or, take, drop}
-use Rattle.shapes.specs.Refusals.{Rule, when, Ruling, fine, refused, ruling}
+use Rattle.std.specs.Prelude.{ℕ, zero, suc, ◌+◌, ◌*◌, ◌≤◌, ◌≡◌, List, [], ◌∷◌, ◌++◌, Bool, true, false, cond, not, ◌&&◌, leb, length, get_or, take, drop, Option, Some, None, Result}
+use Rattle.shapes.specs.Refusals.{Rule, when, ruling}
 use Rattle.machine.specs.Limits.{steps_most}
 use Rattle.machine.specs.Head.{within}
 use Rattle.machine.specs.Case.{Case, good_case, as_case}
@@ -9,9 +9,7 @@ use Rattle.house.specs.File.{version, rest_at, file_rules, file_of}
 use Rattle.house.specs.declared.refusal.Refusal.{Refusal}
 use Rattle.house.specs.declared.refusal.Refusal.TheVariants.{Step, Record}
 use Rattle.house.specs.declared.cases.About.{About}
-use Rattle.house.specs.declared.cases.Counted.{Counted}
-use Rattle.house.specs.declared.cases.Counted.TheVariants.{Cases, Broken}
-use Rattle.house.specs.declared.cases.RecordFile as RecordFile_type
+use Rattle.house.specs.Refusal.{ruled}
 
 -- a record has at most 64 cases
 abbrev pub cases_most : ℕ
@@ -59,38 +57,33 @@ case_at file at =
     as_case (take (steps_at file at) (drop (at + 1) file)) (take (steps_at file at) (drop (at + 1 + steps_at file at) file))
 
 -- how many cases stand from a place to the end, n before it and at most `left` more; broken where a case does not fit or more are left
-unfoldable pub count_from : List ℕ → ℕ → ℕ → ℕ → Counted
-count_from file zero at n = cond (leb (length file) at) (Cases n) Broken
+unfoldable pub count_from : List ℕ → ℕ → ℕ → ℕ → Option ℕ
+count_from file zero at n = cond (leb (length file) at) (Some n) None
 count_from file (suc left) at n =
-    cond (leb (length file) at) (Cases n)
-    (cond (case_fits file at) (count_from file left (case_end file at) (suc n)) Broken)
+    cond (leb (length file) at) (Some n)
+    (cond (case_fits file at) (count_from file left (case_end file at) (suc n)) None)
 
 -- how many cases stand in a record file
-unfoldable pub count_in : List ℕ → Counted
+unfoldable pub count_in : List ℕ → Option ℕ
 count_in file = count_from file cases_most rest_at 0
 
 -- RECORD: "a case length of 0 or over 64, a case past the end, or more than 64 cases"
-abbrev pub is_broken : Counted → Bool
-is_broken (Cases n) = false
-is_broken Broken = true
+abbrev pub is_broken : Option ℕ → Bool
+is_broken (Some n) = false
+is_broken None = true
 
 -- and the count where it is none of these
-abbrev pub count_of : Counted → ℕ
-count_of (Cases n) = n
-count_of Broken = 0
+abbrev pub count_of : Option ℕ → ℕ
+count_of (Some n) = n
+count_of None = 0
 
 -- the refusals of a record file, in order
 unfoldable pub record_rules : List ℕ → List (Rule Refusal)
 record_rules file = file_rules version file ++ (when (is_broken (count_in file)) Record ∷ [])
 
--- the count of cases where no rule refuses, else the refusal
-abbrev pub record_or : Ruling Refusal → ℕ → RecordFile_type.RecordFile
-record_or fine n = RecordFile_type.TheVariants.Record n
-record_or (refused r) n = RecordFile_type.TheVariants.Refused r
-
--- what reading a record file answers
-unfoldable pub record_read : List ℕ → RecordFile_type.RecordFile
-record_read file = record_or (ruling (record_rules file)) (count_of (count_in file))
+-- what reading a record file answers: the count of its cases where no rule refuses, else the refusal
+unfoldable pub record_read : List ℕ → Result ℕ Refusal
+record_read file = ruled (ruling (record_rules file)) (count_of (count_in file))
 
 -- n cases from a place on
 unfoldable pub cases_from : List ℕ → ℕ → ℕ → List Case

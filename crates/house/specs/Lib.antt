@@ -3,4 +3,5 @@ pub mod File
 pub mod Table
 pub mod Cases
 pub mod Walk
+pub mod Left
 pub mod Bytes

@@ -1,10 +1,8 @@
 -- The paper's number of each refusal and what it carries (document 01, "Refusal numbers"), and what a list of rules makes a call answer.
-use Rattle.std.specs.Prelude.{ℕ, ◌≡◌, List}
+use Rattle.std.specs.Prelude.{ℕ, ◌≡◌, List, Result, Ok, Err}
 use Rattle.shapes.specs.Refusals.{Ruling, fine, refused}
 use Rattle.house.specs.declared.refusal.Refusal.{Refusal}
 use Rattle.house.specs.declared.refusal.Refusal.TheVariants.{Short, Version, Length, Size, Cell, Step, Full, Slot, Damaged, Record, Number}
-use Rattle.house.specs.declared.refusal.Checked as Checked_type
-use Rattle.house.specs.declared.refusal.Answer as Answer_type
 
 -- the number of a refusal
 abbrev pub number_of : Refusal → ℕ
@@ -73,16 +71,20 @@ pub record PaperRefusals : Type 0 where
   pub record_carries : carried_of Record ≡ 0
   pub number_carries : carried_of Number ≡ 0
 
+-- what a call answers: what there is to answer where no rule refuses, else the refusal
+abbrev pub ruled : {A : Type 0} → Ruling Refusal → A → Result A Refusal
+ruled fine a = Ok a
+ruled (refused r) a = Err r
+
 -- a call that only checks answers what its rules say
-abbrev pub checked : Ruling Refusal → Checked_type.Checked
-checked fine = Checked_type.TheVariants.Fine
-checked (refused r) = Checked_type.TheVariants.Refused r
+abbrev pub checked : Ruling Refusal → Result (Unit {0}) Refusal
+checked r = ruled r tt
 
 -- what a call answers, with what it leaves in the one buffer lent to it
 pub data Written : Type 0 where
-  wrote : Answer_type.Answer → List ℕ → Written
+  wrote : Result ℕ Refusal → List ℕ → Written
 
 -- a call that writes a buffer: where its rules say nothing it answers the number and leaves the new list; a refusal leaves the old
 abbrev pub written_or : Ruling Refusal → ℕ → List ℕ → List ℕ → Written
-written_or fine n old new = wrote (Answer_type.TheVariants.Done n) new
-written_or (refused r) n old new = wrote (Answer_type.TheVariants.Refused r) old
+written_or fine n old new = wrote (Ok n) new
+written_or (refused r) n old new = wrote (Err r) old

@@ -1,14 +1,13 @@
 -- The table file: "n, k, m, then n × k cells in rising number, next state before output. The rest is 3 + 2nk bytes."
-use Rattle.std.specs.Prelude.{ℕ, ◌+◌, ◌-◌, ◌*◌, List, [], ◌∷◌, ◌++◌, Bool, not, ◌||◌, eqb, ltb, length, get_or, take, drop}
-use Rattle.shapes.specs.Refusals.{Rule, when, Ruling, fine, refused, ruling}
+use Rattle.std.specs.Prelude.{ℕ, ◌+◌, ◌-◌, ◌*◌, List, [], ◌∷◌, ◌++◌, Bool, not, ◌||◌, eqb, ltb, length, get_or, take, drop, Result}
+use Rattle.shapes.specs.Refusals.{Rule, when, ruling}
 use Rattle.machine.specs.Head.{good_head, cell_count}
 use Rattle.machine.specs.Cell.{first_bad}
 use Rattle.machine.specs.declared.head.Head.{Head}
 use Rattle.house.specs.File.{version, rest_at, file_rules, file_head}
 use Rattle.house.specs.declared.refusal.Refusal.{Refusal}
 use Rattle.house.specs.declared.refusal.Refusal.TheVariants.{Size, Cell}
-use Rattle.house.specs.declared.table.TableFile.{TableFile}
-use Rattle.house.specs.declared.table.TableFile.TheVariants.{Table, Refused}
+use Rattle.house.specs.Refusal.{ruled}
 
 -- where the cells stand
 abbrev pub file_cells_at : ℕ
@@ -37,14 +36,9 @@ table_rules file =
     ++ (when (bad_size file) Size
     ∷ when (bad_cells file) (Cell (first_bad (head_in file) (cells_in file))) ∷ [])
 
--- the table where no rule refuses, else the refusal
-abbrev pub table_or : Ruling Refusal → Head → TableFile
-table_or fine h = Table h
-table_or (refused r) h = Refused r
-
--- what reading a table file answers
-unfoldable pub table_read : List ℕ → TableFile
-table_read file = table_or (ruling (table_rules file)) (head_in file)
+-- what reading a table file answers: its head where no rule refuses, else the refusal
+unfoldable pub table_read : List ℕ → Result Head Refusal
+table_read file = ruled (ruling (table_rules file)) (head_in file)
 
 -- how many bytes a table file has
 abbrev pub table_bytes : Head → ℕ

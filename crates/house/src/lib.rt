@@ -9,3 +9,5 @@ pub mod file;
 pub mod table;
 // The record file and its cases.
 pub mod cases;
+// A record that was read, and its cases one after the other.
+pub mod record;

@@ -2,7 +2,7 @@
 ghost use Rattle.std.specs.Prelude.{◌≡◌};
 ghost use Rattle.house.specs.Refusal.{number_of, carried_of};
 
-#[derive(Clone, Copy)]
+#[derive(Clone, Copy, Debug, PartialEq, Eq)]
 pub enum Refusal {
     // A buffer is shorter than needed, and the count of entries or bytes needed where the paper says that one is carried.
     Short(usize),
@@ -17,20 +17,6 @@ pub enum Refusal {
     Damaged,
     Record,
     Number,
-}
-
-// What a check found.
-#[derive(Clone, Copy)]
-pub enum Checked {
-    Fine,
-    Refused(Refusal),
-}
-
-// What a call answers: a number, or a refusal.
-#[derive(Clone, Copy)]
-pub enum Answer {
-    Done(usize),
-    Refused(Refusal),
 }
 
 impl Refusal {

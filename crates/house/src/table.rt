@@ -7,53 +7,38 @@ ghost use Rattle.machine.specs.Head.{HeadIn};
 ghost use Rattle.house.specs.Table.{file_cells_at, table_read, table_head_bytes};
 
 use crate::file::{VERSION, check_file, put_file_head};
-use crate::refusal::{Checked, Refusal};
+use crate::refusal::Refusal;
 use machine::cell::first_bad;
-use machine::head::{Head, MadeHead};
+use machine::head::Head;
 use shapes::byte;
 
 // Where the cells of a table file stand.
 pub const FILE_CELLS_AT: usize = 6;
 
-// What a table file holds: a table with this head, or the refusal.
-#[derive(Clone, Copy)]
-pub enum TableFile {
-    Table(Head),
-    Refused(Refusal),
-}
-
 // The head of a table, or its refusal, from any bytes; the cells stand from FILE_CELLS_AT on.
-pub fn read_table(file: &[u8]) -> TableFile
+pub fn read_table(file: &[u8]) -> Result<Head, Refusal>
     ensures { result ≡ table_read file.now }
 {
-    let found = check_file(file, VERSION);
-    if let Checked::Refused(refusal) = found {
-        return TableFile::Refused(refusal);
-    }
+    check_file(file, VERSION)?;
     read_checked(file)
 }
 
 // The same of a file whose first three bytes are right.
-fn read_checked(file: &[u8]) -> TableFile
+fn read_checked(file: &[u8]) -> Result<Head, Refusal>
     requires { ruling (file_rules version file.now) ≡ fine }
     ensures { result ≡ table_read file.now }
 {
     if file.len() < FILE_CELLS_AT {
-        return TableFile::Refused(Refusal::Size);
+        return Err(Refusal::Size);
     }
-    let made = Head::new(byte(file, 3), byte(file, 4), byte(file, 5));
-    let MadeHead::Made(head) = made else {
-        return TableFile::Refused(Refusal::Size);
-    };
-    let count = head.cells();
-    if file.len() != FILE_CELLS_AT + 2 * count {
-        return TableFile::Refused(Refusal::Size);
+    let head = Head::new(byte(file, 3), byte(file, 4), byte(file, 5)).ok_or(Refusal::Size)?;
+    if file.len() != FILE_CELLS_AT + 2 * head.cells() {
+        return Err(Refusal::Size);
     }
-    let bad = first_bad(head, &file[FILE_CELLS_AT..]);
-    if bad < count {
-        return TableFile::Refused(Refusal::Cell(bad));
+    match first_bad(head, &file[FILE_CELLS_AT..]) {
+        Some(cell) => Err(Refusal::Cell(cell)),
+        None => Ok(head),
     }
-    TableFile::Table(head)
 }
 
 // Writes what a table file has before its cells.

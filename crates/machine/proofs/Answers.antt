@@ -18,8 +18,8 @@ use Rattle.machine.proofs.cell.completed_move.Kinds as completed_move_kinds
 use Rattle.machine.proofs.cell.completed_move.Reads as completed_move_reads
 use Rattle.machine.proofs.cell.cell_of.Kinds as cell_of_kinds
 use Rattle.machine.proofs.cell.cell_of.Reads as cell_of_reads
-use Rattle.machine.proofs.cell.specified_move.Kinds as specified_move_kinds
-use Rattle.machine.proofs.cell.specified_move.Reads as specified_move_reads
+use Rattle.machine.proofs.table.Table.specified_move.Kinds as specified_move_kinds
+use Rattle.machine.proofs.table.Table.specified_move.Reads as specified_move_reads
 use Rattle.machine.proofs.fault.Fault.new.Kinds as fault_new_kinds
 use Rattle.machine.proofs.fault.Fault.new.Reads as fault_new_reads
 use Rattle.machine.proofs.fault.Fault.numbered.Kinds as fault_numbered_kinds
@@ -30,12 +30,12 @@ use Rattle.machine.proofs.fault.is_fault.Kinds as is_fault_kinds
 use Rattle.machine.proofs.fault.is_fault.Reads as is_fault_reads
 use Rattle.machine.proofs.case.is_case.Kinds as is_case_kinds
 use Rattle.machine.proofs.case.is_case.Reads as is_case_reads
-use Rattle.machine.proofs.replay.symptoms_of.Kinds as symptoms_of_kinds
-use Rattle.machine.proofs.replay.symptoms_of.Reads as symptoms_of_reads
-use Rattle.machine.proofs.replay.is_reproduced.Kinds as is_reproduced_kinds
-use Rattle.machine.proofs.replay.is_reproduced.Reads as is_reproduced_reads
-use Rattle.machine.proofs.replay.is_expected.Kinds as is_expected_kinds
-use Rattle.machine.proofs.replay.is_expected.Reads as is_expected_reads
+use Rattle.machine.proofs.replay.Run.symptoms.Kinds as symptoms_of_kinds
+use Rattle.machine.proofs.replay.Run.symptoms.Reads as symptoms_of_reads
+use Rattle.machine.proofs.replay.Run.is_reproduced.Kinds as is_reproduced_kinds
+use Rattle.machine.proofs.replay.Run.is_reproduced.Reads as is_reproduced_reads
+use Rattle.machine.proofs.replay.Run.is_expected.Kinds as is_expected_kinds
+use Rattle.machine.proofs.replay.Run.is_expected.Reads as is_expected_reads
 use Rattle.machine.proofs.replay.mark_executed.Kinds as mark_executed_kinds
 use Rattle.machine.proofs.replay.mark_executed.Reads as mark_executed_reads
 
@@ -88,7 +88,7 @@ is_reproduced_one : OneAnswer is_reproduced_kinds.ps is_reproduced_kinds.r is_re
 is_reproduced_one κs a z z' ws ws' p q = (p ∙ sym q, refl)
 
 mark_executed_one : OneAnswer mark_executed_kinds.ps mark_executed_kinds.r mark_executed_reads.Post
-mark_executed_one κs a z z' ws ws' p q = (refl, λ i. (ws.0, (ws.1.0, (ws.1.1.0, ((p ∙ sym q) i, ws.1.1.1.1)))))
+mark_executed_one κs a z z' ws ws' p q = (refl, λ i. (ws.0, (ws.1.0, ((p ∙ sym q) i, ws.1.1.1))))
 
 is_expected_one : OneAnswer is_expected_kinds.ps is_expected_kinds.r is_expected_reads.Post
 is_expected_one κs a z z' ws ws' p q = (p ∙ sym q, refl)

@@ -7,13 +7,13 @@ use mathlib.Core.Bool.{Bool, true, false, cond}
 use borrow.Author.Tests.{leb-true, leb-false, eqb-true, le-leb}
 use lib.ListN.{length}
 use native.Mathlib.Omega.{arith}
+use Rattle.std.specs.Prelude.{Some, None}
 use Rattle.shapes.specs.First.{first}
 use Rattle.shapes.proofs.First.{first_before}
 use Rattle.shapes.proofs.Tests.{and_true, or_false}
 use Rattle.machine.specs.Head.{good_head, made_head, HeadIn}
 use Rattle.machine.specs.Case.{bad_step, first_bad_step, good_case, CaseIn, InputsIn}
 use Rattle.machine.specs.declared.head.Head.{Head}
-use Rattle.machine.specs.declared.head.MadeHead.TheVariants.{Made, Nothing}
 
 -- a head that passes the test is a head
 pub head_in_law : (h : Head) → good_head h ≡ true → HeadIn h
@@ -41,7 +41,7 @@ head_good h k =
     (le-leb _ _ k.some_states, le-leb _ _ k.few_states, le-leb _ _ k.some_inputs, le-leb _ _ k.few_inputs, le-leb _ _ k.some_outputs, le-leb _ _ k.few_outputs)
 
 -- a head that was made is a head, and the three numbers are its own
-pub made_head_law : (n k m : ℕ) (h : Head) → made_head n k m ≡ Made h
+pub made_head_law : (n k m : ℕ) (h : Head) → made_head n k m ≡ Some h
     → (good_head (record { states = n; inputs = k; outputs = m }) ≡ true) × (h ≡ record { states = n; inputs = k; outputs = m })
 unfolding made_head
 made_head_law n k m h = go (good_head (record { states = n; inputs = k; outputs = m }))
@@ -49,19 +49,19 @@ made_head_law n k m h = go (good_head (record { states = n; inputs = k; outputs 
     it : Head
     it = record { states = n; inputs = k; outputs = m }
 
-    go : (b : Bool) → cond b (Made it) Nothing ≡ Made h → (b ≡ true) × (h ≡ it)
+    go : (b : Bool) → cond b (Some it) None ≡ Some h → (b ≡ true) × (h ≡ it)
     go true e = (refl, cc)
     go false e = (cc, cc)
 
 -- three numbers that make none are out of range
-pub made_no_head : (n k m : ℕ) → made_head n k m ≡ Nothing → good_head (record { states = n; inputs = k; outputs = m }) ≡ false
+pub made_no_head : (n k m : ℕ) → made_head n k m ≡ None → good_head (record { states = n; inputs = k; outputs = m }) ≡ false
 unfolding made_head
 made_no_head n k m = go (good_head (record { states = n; inputs = k; outputs = m }))
   where
     it : Head
     it = record { states = n; inputs = k; outputs = m }
 
-    go : (b : Bool) → cond b (Made it) Nothing ≡ Nothing → b ≡ false
+    go : (b : Bool) → cond b (Some it) None ≡ None → b ≡ false
     go true e = cc
     go false e = refl
 

@@ -9,6 +9,7 @@ use borrow.Author.Tests.{ltb-true, ltb-false, eqb-true}
 use lib.Dec.{eqb, ltb}
 use native.Mathlib.Nat.{mod-lt, zero-div, div-add-mod'}
 use native.Mathlib.Omega.{arith}
+use Rattle.std.specs.Prelude.{Some, None}
 use Rattle.machine.specs.Head.{HeadIn, cell_count, width, numbers}
 use Rattle.machine.specs.Cell.{TableIn}
 use Rattle.machine.specs.Machine.{Machine, initial, completed, specified}
@@ -19,7 +20,6 @@ use Rattle.machine.specs.declared.fault.Change.{Change}
 use Rattle.machine.specs.declared.fault.Fault.{Fault}
 use Rattle.machine.specs.declared.fault.Kind.{Kind}
 use Rattle.machine.specs.declared.fault.Kind.TheVariants.{Output, Transfer}
-use Rattle.machine.specs.declared.fault.MadeFault.TheVariants.{Made, Nothing}
 use Rattle.machine.specs.Replay.{change_at}
 use Rattle.machine.proofs.Numbers.{number_cell}
 use Rattle.machine.proofs.Moves.{completed_in}
@@ -38,20 +38,20 @@ fault_number_law h f = go (ltb (f % width h) h.outputs) refl
         rw back (div-add-mod' f (width h))
 
 -- a number that makes no fault is not in use
-pub made_none : (h : Head) (f : ℕ) → made_fault h f ≡ Nothing → ltb f (numbers h) ≡ false
+pub made_none : (h : Head) (f : ℕ) → made_fault h f ≡ None → ltb f (numbers h) ≡ false
 unfolding made_fault
 made_none h f = go (ltb f (numbers h))
   where
-    go : (b : Bool) → cond b (Made (fault_of h f)) Nothing ≡ Nothing → b ≡ false
+    go : (b : Bool) → cond b (Some (fault_of h f)) None ≡ None → b ≡ false
     go true e = cc
     go false e = refl
 
 -- a number that makes one is in use, and the fault is the number's
-pub made_some : (h : Head) (f : ℕ) (x : Fault) → made_fault h f ≡ Made x → (ltb f (numbers h) ≡ true) × (fault_of h f ≡ x)
+pub made_some : (h : Head) (f : ℕ) (x : Fault) → made_fault h f ≡ Some x → (ltb f (numbers h) ≡ true) × (fault_of h f ≡ x)
 unfolding made_fault
 made_some h f x = go (ltb f (numbers h))
   where
-    go : (b : Bool) → cond b (Made (fault_of h f)) Nothing ≡ Made x → (b ≡ true) × (fault_of h f ≡ x)
+    go : (b : Bool) → cond b (Some (fault_of h f)) None ≡ Some x → (b ≡ true) × (fault_of h f ≡ x)
     go true e = (refl, cc)
     go false e = (cc, cc)
 

@@ -1,6 +1,6 @@
 -- The cells of a table as bytes: next state before output, 255 and 255 for undefined (document 01, "Machine", "House files", CELL).
-use Rattle.std.specs.Prelude.{ℕ, ◌+◌, ◌*◌, ◌≤◌, ◌<◌, ◌≡◌, List, Bool, not, ◌&&◌, ◌||◌, eqb, leb, length, get_or}
-use Rattle.shapes.specs.First.{first}
+use Rattle.std.specs.Prelude.{ℕ, ◌+◌, ◌*◌, ◌≤◌, ◌<◌, ◌≡◌, List, Bool, not, ◌&&◌, ◌||◌, eqb, leb, Option, length, get_or}
+use Rattle.shapes.specs.First.{first, found}
 use Rattle.machine.specs.Head.{HeadIn, cell_count}
 use Rattle.machine.specs.declared.head.Head.{Head}
 
@@ -26,6 +26,10 @@ bad_cell h cells c = not (undefined cells c) && (leb h.states (next_byte cells c
 -- the lowest bad cell; the count of the cells where none is bad
 unfoldable pub first_bad : Head → List ℕ → ℕ
 first_bad h cells = first (bad_cell h cells) 0 (cell_count h)
+
+-- that cell, if there is one
+unfoldable pub bad_in : Head → List ℕ → Option ℕ
+bad_in h cells = found (first_bad h cells) (cell_count h)
 
 -- two lists of bytes hold the same cells of a table: they agree as far as the table goes
 abbrev pub SameCells : Head → List ℕ → List ℕ → Type 0

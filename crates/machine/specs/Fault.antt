@@ -1,5 +1,5 @@
 -- Fault numbers and the machine that a number makes (document 01, "Fault numbers").
-use Rattle.std.specs.Prelude.{ℕ, ◌+◌, ◌-◌, ◌*◌, ◌/◌, ◌%◌, ◌<◌, List, Bool, cond, not, ◌&&◌, eqb, ltb}
+use Rattle.std.specs.Prelude.{ℕ, ◌+◌, ◌-◌, ◌*◌, ◌/◌, ◌%◌, ◌<◌, List, Bool, cond, not, ◌&&◌, eqb, ltb, Option, Some, None}
 use Rattle.machine.specs.Head.{cell_count, width, numbers}
 use Rattle.machine.specs.Cell.{undefined}
 use Rattle.machine.specs.Machine.{Machine, specified}
@@ -9,8 +9,6 @@ use Rattle.machine.specs.declared.fault.Kind.{Kind}
 use Rattle.machine.specs.declared.fault.Kind.TheVariants.{Output, Transfer}
 use Rattle.machine.specs.declared.fault.Fault.{Fault}
 use Rattle.machine.specs.declared.fault.Change.{Change}
-use Rattle.machine.specs.declared.fault.MadeFault.{MadeFault}
-use Rattle.machine.specs.declared.fault.MadeFault.TheVariants.{Made, Nothing}
 
 -- "Number f = c × (n + m) + j": with j below m the output j of cell c, with j from m its transfer to state j - m
 unfoldable pub fault_of : Head → ℕ → Fault
@@ -33,8 +31,8 @@ unfoldable pub cell_of : Head → ℕ → ℕ
 cell_of h f = (fault_of h f).cell
 
 -- "the numbers are those below n × k × (n + m)": what a number stands for, or that it is not in use
-unfoldable pub made_fault : Head → ℕ → MadeFault
-made_fault h f = cond (ltb f (numbers h)) (Made (fault_of h f)) Nothing
+unfoldable pub made_fault : Head → ℕ → Option Fault
+made_fault h f = cond (ltb f (numbers h)) (Some (fault_of h f)) None
 
 -- "cell c gives output j and keeps its next state"; "cell c goes to state j - m and keeps its output"
 abbrev pub altered : Kind → ℕ → Move → Move

@@ -1,9 +1,7 @@
 -- The head of a table: n states, k inputs, m outputs (document 01, "Machine").
-use Rattle.std.specs.Prelude.{ℕ, ◌+◌, ◌*◌, ◌≤◌, Bool, cond, ◌&&◌, leb}
+use Rattle.std.specs.Prelude.{ℕ, ◌+◌, ◌*◌, ◌≤◌, Bool, cond, ◌&&◌, leb, Option, Some, None}
 use Rattle.machine.specs.Limits.{states_most, inputs_most, outputs_most}
 use Rattle.machine.specs.declared.head.Head.{Head}
-use Rattle.machine.specs.declared.head.MadeHead.{MadeHead}
-use Rattle.machine.specs.declared.head.MadeHead.TheVariants.{Made, Nothing}
 
 -- x is at least 1 and at most top
 abbrev pub within : ℕ → ℕ → Bool
@@ -14,10 +12,10 @@ unfoldable pub good_head : Head → Bool
 good_head h = within h.states states_most && within h.inputs inputs_most && within h.outputs outputs_most
 
 -- three numbers make a head, or none
-unfoldable pub made_head : ℕ → ℕ → ℕ → MadeHead
+unfoldable pub made_head : ℕ → ℕ → ℕ → Option Head
 made_head n k m =
     let h : Head = record { states = n; inputs = k; outputs = m } in
-    cond (good_head h) (Made h) Nothing
+    cond (good_head h) (Some h) None
 
 -- what is known of a head that was made
 pub record HeadIn (h : Head) : Type 0 where

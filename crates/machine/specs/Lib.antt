@@ -2,9 +2,11 @@ pub mod Limits
 pub mod Head
 pub mod Cell
 pub mod Machine
+pub mod Tested
 pub mod Fault
 pub mod Mutant
 pub mod Case
 pub mod Run
 pub mod Replay
+pub mod Runs
 pub mod Marks

@@ -1,14 +1,14 @@
 // The cells of a table as bytes, next state before output, and the completed machine's move at a cell (document 01, "Machine").
 ghost use Rattle.std.specs.Prelude.{◌≡◌, ◌+◌, ◌*◌, ◌<◌, ◌≤◌, length};
 ghost use Rattle.machine.specs.Head.{HeadIn, cell_count};
-ghost use Rattle.machine.specs.Cell.{undefined, bad_cell, first_bad, TableIn};
-ghost use Rattle.machine.specs.Machine.{cell_number, completed, specified};
+ghost use Rattle.machine.specs.Cell.{undefined, bad_cell, bad_in};
+ghost use Rattle.machine.specs.Machine.{cell_number, completed};
 
 use crate::head::Head;
 use shapes::byte;
 
 // Both bytes of an undefined cell.
-pub const UNDEFINED: usize = 255;
+pub const UNDEFINED: u8 = 255;
 
 // The output of an undefined cell.
 const NULL_OUTPUT: usize = 0;
@@ -21,40 +21,32 @@ pub struct Move {
 }
 
 // Whether a cell holds 255 and 255.
+#[tactic(auto, unfolding(crate::specs::Cell::undefined))]
 pub fn is_undefined(cells: &[u8], cell: usize) -> bool
     requires { 2 * cell + 1 < length cells.now }
     ensures { result ≡ undefined cells.now cell }
 {
-    let next = byte(cells, 2 * cell);
-    let output = byte(cells, 2 * cell + 1);
-    (next == UNDEFINED) & (output == UNDEFINED)
+    cells[2 * cell] == UNDEFINED && cells[2 * cell + 1] == UNDEFINED
 }
 
 // Whether a cell leads out of the table: its next state is no state or its output no output.
+#[tactic(auto, unfolding(crate::specs::Cell::bad_cell))]
 fn is_bad(head: Head, cells: &[u8], cell: usize) -> bool
     requires { 2 * cell + 1 < length cells.now }
     ensures { result ≡ bad_cell head cells.now cell }
 {
     let next = byte(cells, 2 * cell);
     let output = byte(cells, 2 * cell + 1);
-    !is_undefined(cells, cell) & ((head.states <= next) | (head.outputs <= output))
+    !is_undefined(cells, cell) && (head.states <= next || head.outputs <= output)
 }
 
-// The lowest bad cell, or the count of the cells where none is bad.
-pub fn first_bad(head: Head, cells: &[u8]) -> usize
+// The lowest bad cell, if there is one.
+pub fn first_bad(head: Head, cells: &[u8]) -> Option<usize>
     requires head_in { HeadIn head }
     requires head_in_bounds { 2 * cell_count head ≤ length cells.now }
-    ensures { result ≡ first_bad head cells.now }
+    ensures { result ≡ bad_in head cells.now }
 {
-    let count = head.cells();
-    let mut cell = 0;
-    while cell < count {
-        if is_bad(head, cells, cell) {
-            return cell;
-        }
-        cell += 1;
-    }
-    cell
+    (0..head.cells()).find(|cell| is_bad(head, cells, *cell))
 }
 
 // The completed machine's move at a cell of a state.
@@ -82,15 +74,4 @@ pub fn cell_of(head: Head, state: usize, input: usize) -> usize
     ensures upper_bound { result < cell_count head }
 {
     state * head.inputs + input
-}
-
-// The specified machine's move from a state under an input.
-pub fn specified_move(head: Head, cells: &[u8], state: usize, input: usize) -> Move
-    requires table_in { TableIn head cells.now }
-    requires state_lt_states { (state < head.states) × (input < head.inputs) }
-    ensures moves { result ≡ (specified head cells.now).does (cell_number head.inputs state input) }
-    ensures state { result.next < head.states }
-{
-    let cell = cell_of(head, state, input);
-    completed_move(cells, state, cell)
 }

@@ -2,15 +2,15 @@
 ghost use Rattle.std.specs.Prelude.{◌≡◌, ◌<◌};
 ghost use Rattle.machine.specs.Limits.{numbers_most};
 ghost use Rattle.machine.specs.Head.{HeadIn, numbers};
-ghost use Rattle.machine.specs.Cell.{TableIn};
-ghost use Rattle.machine.specs.Machine.{specified};
+ghost use Rattle.machine.specs.Tested.{table_machine};
 ghost use Rattle.machine.specs.Fault.{fault_of, made_fault, FaultIn, change_of, alters, is_fault};
 
 use crate::cell::{Move, completed_move, is_undefined};
 use crate::head::Head;
+use crate::table::Table;
 
 // What a fault changes at its cell: the output, or the state it goes to.
-#[derive(Clone, Copy)]
+#[derive(Clone, Copy, Debug, PartialEq, Eq)]
 pub enum Kind {
     Output,
     Transfer,
@@ -25,13 +25,6 @@ pub struct Fault {
     pub value: usize,
 }
 
-// A fault, or that the number is not in use.
-#[derive(Clone, Copy)]
-pub enum MadeFault {
-    Made(Fault),
-    Nothing,
-}
-
 // The move that stands at one cell in place of the table's.
 #[derive(Clone, Copy)]
 pub struct Change {
@@ -42,16 +35,16 @@ pub struct Change {
 impl Fault {
     pub const NUMBERS: usize = Head::CELLS * (Head::STATES + Head::OUTPUTS);
 
-    // What any number stands for.
-    pub fn new(head: Head, number: usize) -> MadeFault
+    // What any number stands for, if it is in use.
+    pub fn new(head: Head, number: usize) -> Option<Fault>
         requires { HeadIn head }
         ensures made { result ≡ made_fault head number }
         ensures limit { Fault.NUMBERS ≡ numbers_most }
     {
         if head.numbers() <= number {
-            return MadeFault::Nothing;
+            return None;
         }
-        MadeFault::Made(Fault::numbered(head, number))
+        Some(Fault::numbered(head, number))
     }
 
     // What a number in use stands for.
@@ -79,57 +72,58 @@ impl Fault {
     }
 
     // The change that the fault makes to the specified machine.
-    pub fn change(self, head: Head, cells: &[u8]) -> Change
-        requires table_in { TableIn head cells.now }
-        requires fault_in { FaultIn head self }
-        ensures { result ≡ change_of (specified head cells.now) self }
+    #[tactic(auto, unfolding(crate::specs::Fault::change_of))]
+    pub fn change(self, table: &Table<'_>) -> Change
+        requires { FaultIn table.now.head self }
+        ensures { result ≡ change_of (table_machine table.now) self }
     {
-        let cell = self.cell;
-        let value = self.value;
-        let to = completed_move(cells, cell / head.inputs, cell);
-        let kind = self.kind;
-        match kind {
-            Kind::Output => Change {
-                cell,
-                to: Move {
-                    next: to.next,
-                    output: value,
-                },
+        let own = self.own_move(table);
+        let to = match self.kind {
+            Kind::Output => Move {
+                output: self.value,
+                ..own
             },
-            Kind::Transfer => Change {
-                cell,
-                to: Move {
-                    next: value,
-                    output: to.output,
-                },
+            Kind::Transfer => Move {
+                next: self.value,
+                ..own
             },
+        };
+        Change {
+            cell: self.cell,
+            to,
         }
     }
 
     // Whether the fault lies on a defined cell and its value differs from the cell's own.
-    fn is_alteration(self, head: Head, cells: &[u8]) -> bool
-        requires table_in { TableIn head cells.now }
-        requires fault_in { FaultIn head self }
-        ensures { result ≡ alters head cells.now self }
+    #[tactic(auto, unfolding(crate::specs::Fault::alters, crate::specs::Machine::specified))]
+    fn is_alteration(self, table: &Table<'_>) -> bool
+        requires { FaultIn table.now.head self }
+        ensures { result ≡ alters table.now.head table.now.cells.now self }
     {
-        let cell = self.cell;
-        let value = self.value;
-        let to = completed_move(cells, cell / head.inputs, cell);
-        let kind = self.kind;
-        match kind {
-            Kind::Output => !is_undefined(cells, cell) & (value != to.output),
-            Kind::Transfer => !is_undefined(cells, cell) & (value != to.next),
-        }
+        let own = self.own_move(table);
+        let own_value = match self.kind {
+            Kind::Output => own.output,
+            Kind::Transfer => own.next,
+        };
+        !is_undefined(table.cells, self.cell) && self.value != own_value
+    }
+
+    // What the specified machine does at the fault's cell.
+    #[tactic(auto, unfolding(crate::specs::Machine::specified))]
+    fn own_move(self, table: &Table<'_>) -> Move
+        requires { FaultIn table.now.head self }
+        ensures { result ≡ (table_machine table.now).does self.cell }
+    {
+        completed_move(table.cells, self.cell / table.head.inputs, self.cell)
     }
 }
 
 // Whether a number is a fault.
-pub fn is_fault(head: Head, cells: &[u8], number: usize) -> bool
-    requires { TableIn head cells.now }
-    ensures { result ≡ is_fault head cells.now number }
+pub fn is_fault(table: &Table<'_>, number: usize) -> bool
+    ensures { result ≡ is_fault table.now.head table.now.cells.now number }
 {
-    let MadeFault::Made(fault) = Fault::new(head, number) else {
+    let Some(fault) = Fault::new(table.head, number) else {
         return false;
     };
-    fault.is_alteration(head, cells)
+    fault.is_alteration(table)
 }

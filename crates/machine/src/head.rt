@@ -10,18 +10,11 @@ pub struct Head {
     pub outputs: usize,
 }
 
-// A head, or that the three numbers make none.
-#[derive(Clone, Copy)]
-pub enum MadeHead {
-    Made(Head),
-    Nothing,
-}
-
 // `x` is at least 1 and at most `top`.
 pub fn is_within(x: usize, top: usize) -> bool
     ensures { result ≡ within x top }
 {
-    (1 <= x) & (x <= top)
+    (1..=top).contains(&x)
 }
 
 impl Head {
@@ -33,20 +26,16 @@ impl Head {
 
     pub const CELLS: usize = Head::STATES * Head::INPUTS;
 
-    pub fn new(states: usize, inputs: usize, outputs: usize) -> MadeHead
+    // The head of three numbers, if they make one.
+    #[tactic(auto, unfolding(crate::specs::Head::made_head, crate::specs::Head::good_head))]
+    pub fn new(states: usize, inputs: usize, outputs: usize) -> Option<Head>
         ensures made { result ≡ made_head states inputs outputs }
         ensures limit { Head.CELLS ≡ cells_most }
     {
-        if !is_within(states, Head::STATES) {
-            return MadeHead::Nothing;
-        }
-        if !is_within(inputs, Head::INPUTS) {
-            return MadeHead::Nothing;
-        }
-        if !is_within(outputs, Head::OUTPUTS) {
-            return MadeHead::Nothing;
-        }
-        MadeHead::Made(Head {
+        let is_head = is_within(states, Head::STATES)
+            && is_within(inputs, Head::INPUTS)
+            && is_within(outputs, Head::OUTPUTS);
+        is_head.then_some(Head {
             states,
             inputs,
             outputs,

@@ -7,6 +7,8 @@
 pub mod head;
 // The cells of a table as bytes, and what the completed machine does at one.
 pub mod cell;
+// A table that was tested, and the specified machine's moves on it.
+pub mod table;
 // Fault numbers, and the one change that a number makes.
 pub mod fault;
 // What a case must be to be run against a head.

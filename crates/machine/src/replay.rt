@@ -3,21 +3,29 @@
 ghost use Rattle.std.specs.Prelude.{◌≡◌, ◌<◌, ◌≤◌, length};
 ghost use Rattle.machine.specs.Limits.{steps_most};
 ghost use Rattle.machine.specs.Head.{cell_count, numbers};
-ghost use Rattle.machine.specs.Cell.{TableIn};
-ghost use Rattle.machine.specs.Machine.{cell_number, specified};
+ghost use Rattle.machine.specs.Machine.{cell_number};
+ghost use Rattle.machine.specs.Tested.{table_machine};
 ghost use Rattle.machine.specs.Fault.{under, changed};
 ghost use Rattle.machine.specs.Case.{CaseIn, InputsIn};
 ghost use Rattle.machine.specs.Run.{agrees, executed, symptoms_of, reproduces};
 ghost use Rattle.machine.specs.Marks.{marked};
-ghost use Rattle.machine.specs.Replay.{change_at, fresh, stepped, taken, NextStep, ReplayIn};
+ghost use Rattle.machine.specs.Replay.{fresh, stepped};
 
-use crate::cell::{Move, cell_of, completed_move, specified_move};
+use crate::cell::{Move, cell_of, completed_move};
 use crate::fault::{Change, Fault};
-use crate::head::Head;
-use shapes::byte;
+use crate::table::Table;
 
 // The state in which a case begins.
 const INITIAL: usize = 0;
+
+// A case, and the tested table that it can be run on.
+#[derive(Clone, Copy)]
+pub struct Run<'a> {
+    pub table: Table<'a>,
+    pub inputs: &'a [u8],
+    pub outputs: &'a [u8],
+    pub ghost fits: { CaseIn table.head inputs.now outputs.now },
+}
 
 // Where a case's replay stands: its state, the step reached, the symptoms so far, and the first of them (STEPS if there is none).
 #[derive(Clone, Copy)]
@@ -62,160 +70,101 @@ impl Replay {
         requires { (self.step < steps_most) × (self.symptoms ≤ self.step) }
         ensures { result ≡ stepped self to observed }
     {
-        if is_agreed(observed, to.output) {
-            return Replay {
-                state: to.next,
-                step: self.step + 1,
-                symptoms: self.symptoms,
-                first: self.first,
-            };
-        }
-        if self.symptoms == 0 {
-            return Replay {
-                state: to.next,
-                step: self.step + 1,
-                symptoms: self.symptoms + 1,
-                first: self.step,
-            };
-        }
-        Replay {
+        let moved = Replay {
             state: to.next,
             step: self.step + 1,
-            symptoms: self.symptoms + 1,
-            first: self.first,
+            ..self
+        };
+        if is_agreed(observed, to.output) {
+            return moved;
+        }
+        let symptoms = self.symptoms + 1;
+        if self.symptoms == 0 {
+            return Replay {
+                symptoms,
+                first: self.step,
+                ..moved
+            };
+        }
+        Replay { symptoms, ..moved }
+    }
+}
+
+// The move from a state under an input of the machine with one change.
+fn changed_move(table: &Table<'_>, change: Change, state: usize, input: usize) -> Move
+    requires next_lt_states { change.to.next < table.now.head.states }
+    requires state_lt_states { (state < table.now.head.states) × (input < table.now.head.inputs) }
+    ensures moves { result ≡ (under (table_machine table.now) change).does (cell_number table.now.head.inputs state input) }
+    ensures state { result.next < table.now.head.states }
+{
+    let cell = cell_of(table.head, state, input);
+    if cell == change.cell {
+        return change.to;
+    }
+    completed_move(table.cells, state, cell)
+}
+
+impl Run<'_> {
+    // The symptoms of the case: the steps at which an observed output does not agree with the specified machine's.
+    pub fn symptoms(&self) -> Symptoms
+        ensures { result ≡ symptoms_of (table_machine self.now.table) self.now.inputs.now self.now.outputs.now }
+    {
+        let mut replay = Replay::start();
+        for (input, observed) in self.inputs.iter().zip(self.outputs) {
+            let to = self.table.specified_move(replay.state, usize::from(*input));
+            replay = replay.step(to, usize::from(*observed));
+        }
+        Symptoms {
+            count: replay.symptoms,
+            first: replay.first,
         }
     }
-}
 
-// The replay after the specified machine took an input and an output was observed.
-fn specified_step(head: Head, cells: &[u8], replay: Replay, input: usize, observed: usize) -> Replay
-    requires table_in { TableIn head cells.now }
-    requires replay_in { ReplayIn head replay }
-    requires step_lt_steps_most { (replay.step < steps_most) × (input < head.inputs) }
-    ensures step { result ≡ taken (specified head cells.now) replay input observed }
-    ensures known { ReplayIn head result }
-    ensures next { NextStep replay result }
-{
-    let to = specified_move(head, cells, replay.state, input);
-    replay.step(to, observed)
-}
-
-// The move from a state under an input of the machine that makes the move `to` at the cell `at`.
-fn changed_move(head: Head, cells: &[u8], at: usize, to: Move, state: usize, input: usize) -> Move
-    requires table_in { TableIn head cells.now }
-    requires next_lt_states { to.next < head.states }
-    requires state_lt_states { (state < head.states) × (input < head.inputs) }
-    ensures moves { result ≡ (under (specified head cells.now) (change_at at to)).does (cell_number head.inputs state input) }
-    ensures state { result.next < head.states }
-{
-    let cell = cell_of(head, state, input);
-    if cell == at {
-        return to;
-    }
-    completed_move(cells, state, cell)
-}
-
-// The replay after the machine with one change took an input and an output was observed.
-fn changed_step(
-    head: Head,
-    cells: &[u8],
-    change: Change,
-    replay: Replay,
-    input: usize,
-    observed: usize,
-) -> Replay
-    requires table_in { TableIn head cells.now }
-    requires next_lt_states { change.to.next < head.states }
-    requires replay_in { ReplayIn head replay }
-    requires step_lt_steps_most { (replay.step < steps_most) × (input < head.inputs) }
-    ensures step { result ≡ taken (under (specified head cells.now) change) replay input observed }
-    ensures known { ReplayIn head result }
-    ensures next { NextStep replay result }
-{
-    let to = changed_move(head, cells, change.cell, change.to, replay.state, input);
-    replay.step(to, observed)
-}
-
-// The symptoms of a case: the steps at which an observed output does not agree with the specified machine's.
-pub fn symptoms_of(head: Head, cells: &[u8], inputs: &[u8], outputs: &[u8]) -> Symptoms
-    requires table_in { TableIn head cells.now }
-    requires case_in { CaseIn head inputs.now outputs.now }
-    ensures { result ≡ symptoms_of (specified head cells.now) inputs.now outputs.now }
-{
-    let mut replay = Replay::start();
-    let mut step = 0;
-    while step < inputs.len() {
-        replay = specified_step(head, cells, replay, byte(inputs, step), byte(outputs, step));
-        step += 1;
-    }
-    Symptoms {
-        count: replay.symptoms,
-        first: replay.first,
-    }
-}
-
-// Whether the machine with one change reproduces a case. The replay stops at the first difference.
-fn reproduces_under(head: Head, cells: &[u8], change: Change, inputs: &[u8], outputs: &[u8]) -> bool
-    requires table_in { TableIn head cells.now }
-    requires next_lt_states { change.to.next < head.states }
-    requires case_in { CaseIn head inputs.now outputs.now }
-    ensures { result ≡ reproduces (under (specified head cells.now) change) inputs.now outputs.now }
-{
-    let mut replay = Replay::start();
-    let mut done = 0;
-    while done < inputs.len() {
-        replay = changed_step(
-            head,
-            cells,
-            change,
-            replay,
-            byte(inputs, done),
-            byte(outputs, done),
-        );
-        if replay.symptoms != 0 {
-            return false;
+    // Whether the machine with one change reproduces the case. The replay stops at the first difference.
+    fn is_reproduced_under(&self, change: Change) -> bool
+        requires { change.to.next < self.now.table.head.states }
+        ensures { result ≡ reproduces (under (table_machine self.now.table) change) self.now.inputs.now self.now.outputs.now }
+    {
+        let mut replay = Replay::start();
+        for (input, output) in self.inputs.iter().zip(self.outputs) {
+            let to = changed_move(&self.table, change, replay.state, usize::from(*input));
+            replay = replay.step(to, usize::from(*output));
+            if replay.symptoms != 0 {
+                return false;
+            }
         }
-        done += 1;
+        true
     }
-    true
-}
 
-// Whether a number's machine reproduces a case.
-pub fn is_reproduced(head: Head, cells: &[u8], number: usize, inputs: &[u8], outputs: &[u8]) -> bool
-    requires table_in { TableIn head cells.now }
-    requires number_bound { number < numbers head }
-    requires case_in { CaseIn head inputs.now outputs.now }
-    ensures { result ≡ reproduces (changed head cells.now number) inputs.now outputs.now }
-{
-    let fault = Fault::numbered(head, number);
-    reproduces_under(head, cells, fault.change(head, cells), inputs, outputs)
-}
+    // Whether a number's machine reproduces the case.
+    pub fn is_reproduced(&self, number: usize) -> bool
+        requires { number < numbers self.now.table.head }
+        ensures { result ≡ reproduces (changed self.now.table.head self.now.table.cells.now number) self.now.inputs.now self.now.outputs.now }
+    {
+        let fault = Fault::numbered(self.table.head, number);
+        self.is_reproduced_under(fault.change(&self.table))
+    }
 
-// Whether the specified machine reproduces a case. What cell 0 does anyway is put in its place, which changes nothing.
-pub fn is_expected(head: Head, cells: &[u8], inputs: &[u8], outputs: &[u8]) -> bool
-    requires table_in { TableIn head cells.now }
-    requires case_in { CaseIn head inputs.now outputs.now }
-    ensures { result ≡ reproduces (specified head cells.now) inputs.now outputs.now }
-{
-    let to = completed_move(cells, INITIAL, 0);
-    reproduces_under(head, cells, Change { cell: 0, to }, inputs, outputs)
+    // Whether the specified machine reproduces the case. What cell 0 does anyway is put in its place, which changes nothing.
+    pub fn is_expected(&self) -> bool
+        ensures { result ≡ reproduces (table_machine self.now.table) self.now.inputs.now self.now.outputs.now }
+    {
+        let to = completed_move(self.table.cells, INITIAL, 0);
+        self.is_reproduced_under(Change { cell: 0, to })
+    }
 }
 
 // Marks each cell that the specified machine executes under the inputs: of what stands there, 0 or 1, it makes 2 or 3.
-pub fn mark_executed(head: Head, cells: &[u8], inputs: &[u8], out: &mut [u8])
-    requires table_in { TableIn head cells.now }
-    requires inputs_in { InputsIn head inputs.now }
-    requires head_in_bounds { cell_count head ≤ length out.old }
-    ensures { out.new ≡ marked (executed (specified head cells.now) inputs.now) out.old }
+pub fn mark_executed(table: &Table<'_>, inputs: &[u8], out: &mut [u8])
+    requires inputs_in { InputsIn table.now.head inputs.now }
+    requires head_in_bounds { cell_count table.now.head ≤ length out.old }
+    ensures { out.new ≡ marked (executed (table_machine table.now) inputs.now) out.old }
 {
     let mut state = INITIAL;
-    let mut walked = 0;
-    while walked < inputs.len() {
-        let input = byte(inputs, walked);
-        let cell = cell_of(head, state, input);
+    for input in inputs {
+        let input = usize::from(*input);
+        let cell = cell_of(table.head, state, input);
         out[cell] = out[cell] % 2 + 2;
-        let to = specified_move(head, cells, state, input);
-        state = to.next;
-        walked += 1;
+        state = table.specified_move(state, input).next;
     }
 }

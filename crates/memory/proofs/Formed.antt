@@ -13,13 +13,14 @@ use Rattle.shapes.specs.Keep.{every}
 use Rattle.shapes.proofs.First.{first_holds, first_before, all_from, all_at}
 use Rattle.shapes.proofs.Tests.{and_true}
 use Rattle.machine.specs.Limits.{steps_most}
-use Rattle.machine.specs.Head.{HeadIn, cell_count}
+use Rattle.machine.specs.Head.{HeadIn, cell_count, numbers}
 use Rattle.machine.specs.Cell.{TableIn}
 use Rattle.machine.specs.Case.{good_case, CaseIn, all_good}
 use Rattle.machine.proofs.Sound.{cells_few}
 use Rattle.machine.proofs.Cases.{head_in_law, case_in}
+use Rattle.machine.proofs.Sound.{numbers_few}
 use Rattle.memory.specs.Layout.{places_most, session_cells_at, cells_room, session_size, tallies_size, head_of, cells_of, steps_of, is_held, case_of, case_if, held_to, cases, free_place, cases_at}
-use Rattle.memory.specs.Form.{good_table, zeros_after, good_place, tally_most, good_tallies, well_formed, Formed, good_places}
+use Rattle.memory.specs.Form.{good_table, zeros_after, good_place, tally_most, good_tallies, well_formed, Formed, good_places, HeldIn}
 
 -- the cells of a session are as many bytes as they have room
 cells_length : (s : List ℕ) → session_size ≤ length s → length (cells_of s) ≡ cells_room
@@ -158,3 +159,18 @@ pub free_none : (s : List ℕ) → places_most ≤ free_place s → length (case
 unfolding free_place cases
 free_none s l =
     held_all s places_most (λ p k. not-false _ (first_before (λ p. not (is_held s p)) 0 places_most p (omega arith) (omega arith)))
+
+-- a well-formed session has a table and places that are
+pub formed_held : (s t : List ℕ) → Formed s t → HeldIn s
+formed_held s t k = record { room = k.session_room; table = formed_table s t k; places = formed_places s t k }
+
+-- and each of its places is good
+pub held_place : (s : List ℕ) → HeldIn s → (p : ℕ) → p < places_most → good_place s p ≡ true
+held_place s k p l = all_at (good_place s) places_most k.places p l
+
+-- and a tally for each number that is in use
+pub formed_tallied : (s t : List ℕ) → Formed s t → numbers (head_of s) ≤ length t
+formed_tallied s t k =
+    let few = numbers_few (head_of s) (table_good s k.session_room (formed_table s t k)).head in
+    let room = k.tallies_room in
+    omega arith

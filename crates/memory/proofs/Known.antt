@@ -3,11 +3,12 @@
 -- Assumes nothing.
 use Prim.Native.Nat.{ℕ, ◌+◌, ◌-◌, ◌≤◌, ◌<◌}
 use mathlib.Core.Path.{◌≡◌, sym, ap, ◌∙◌}
-use mathlib.Core.Bool.{true, false, Bool, not}
+use mathlib.Core.Bool.{true, false, not}
 use mathlib.Core.List.{List, ◌++◌}
-use borrow.Author.Tests.{not-true, not-false, lt-ltb, le-ltb}
+use borrow.Author.Tests.{not-true, not-false, le-ltb}
 use native.Mathlib.Omega.{arith}
 use lib.ListN.{length, take, drop}
+use Rattle.std.specs.Prelude.{Result, Ok, Err, Some}
 use Rattle.shapes.specs.Refusals.{Ruling, fine, refused, ruling, Rule}
 use Rattle.shapes.proofs.Refusals.{ruling_joined, fine_when, ruling_join_refused, ruling_join_fine}
 use Rattle.machine.specs.Limits.{steps_most}
@@ -16,24 +17,23 @@ use Rattle.machine.specs.Case.{Case, good_case, CaseIn, as_case}
 use Rattle.machine.specs.declared.head.Head.{Head}
 use Rattle.house.specs.Refusal.{checked}
 use Rattle.house.specs.declared.refusal.Refusal.{Refusal}
-use Rattle.house.specs.declared.refusal.Checked.{Checked}
-use Rattle.house.specs.declared.refusal.Checked.TheVariants.{Fine, Refused}
 use Rattle.house.proofs.Forms.{checked_fine, checked_refused}
 use Rattle.memory.specs.Layout.{places_most, session_size, head_of, cells_of, place_at, steps_of, is_held, case_of, tallies_size}
 use Rattle.memory.specs.Form.{good_table, good_place, Formed, room_rules, form_rules, is_slot, slot_rules}
 use Rattle.memory.specs.declared.layout.Place.{Place}
 use Rattle.memory.specs.Loops.{read_place}
 use Rattle.memory.proofs.Checks.{room_known, place_read, free_here, held_here}
-use Rattle.memory.proofs.Formed.{formed_table, formed_place, table_good, place_few, place_case}
-use Rattle.memory.proofs.Held.{slot_inside, slot_held}
+use Rattle.memory.proofs.Formed.{table_good, place_few, place_case}
+use Rattle.memory.specs.Held.{bench_at}
+use Rattle.memory.proofs.Held.{slot_inside}
 
-module _ (v : Ruling Refusal) {x : Checked} (e : x ≡ checked v) where
+module _ (v : Ruling Refusal) {x : Result (Unit {0}) Refusal} (e : x ≡ checked v) where
   -- what a check answered its rules say: nothing,
-  pub told_fine : x ≡ Fine → v ≡ fine
+  pub told_fine : x ≡ Ok tt → v ≡ fine
   told_fine d = checked_fine v (sym e ∙ d)
 
   -- or a refusal
-  pub told_refused : {r : Refusal} → x ≡ Refused r → v ≡ refused r
+  pub told_refused : {r : Refusal} → x ≡ Err r → v ≡ refused r
   told_refused d = checked_refused v (sym e ∙ d)
 
 module _ (s t : List ℕ) where
@@ -111,41 +111,25 @@ module _ (s : List ℕ) (p : ℕ) {here : Place} (e : here ≡ read_place s p) w
 
 -- a place that holds a case, in a well-formed session
 module _ (s t : List ℕ) (p : ℕ) (k : Formed s t × (is_slot s p ≡ true)) where
-  -- it is one of the 64, and there is room for them,
+  -- it is one of the 64, and there is room for them
   pub slot_room : (session_size ≤ length s) × (p < places_most)
   slot_room = (k.0.session_room, slot_inside s p k.1)
 
-  -- it is good,
-  slot_good : good_place s p ≡ true
-  slot_good = formed_place s t k.0 p slot_room.1
-
-  -- where it was read it ends inside the session,
-  pub slot_ends : {here : Place} → here ≡ read_place s p
-      → (here.at + 1 + steps_most + here.steps ≤ session_size) × (session_size ≤ length s)
-  slot_ends e =
-      let w = place_within s p e slot_good in
-      let r = slot_room in (omega arith, r.0)
-
-  -- and its case can be run against the session's table
-  pub slot_runs : {h : Head} {c : Case} → h ≡ head_of s → c ≡ case_of s p → TableIn h (cells_of s) × CaseIn h c.inputs c.outputs
-  slot_runs = case_runs s p slot_room.0 (formed_table s t k.0) slot_good (slot_held s p k.1)
-
-module _ (l m : List (Rule Refusal)) {x : Checked} (e : x ≡ checked (ruling l)) where
+module _ (l m : List (Rule Refusal)) {x : Result (Unit {0}) Refusal} (e : x ≡ checked (ruling l)) where
   -- where the check of the first rules finds nothing wrong the other rules decide,
-  pub part_fine : x ≡ Fine → ruling (l ++ m) ≡ ruling m
+  pub part_fine : x ≡ Ok tt → ruling (l ++ m) ≡ ruling m
   part_fine d = ruling_join_fine l m (told_fine (ruling l) e d)
 
   -- and what it refuses all of them refuse
-  pub part_refused : {r : Refusal} → x ≡ Refused r → ruling (l ++ m) ≡ refused r
+  pub part_refused : {r : Refusal} → x ≡ Err r → ruling (l ++ m) ≡ refused r
   part_refused {r} d = ruling_join_refused l m r (told_refused (ruling l) e d)
 
-module _ (s : List ℕ) (p : ℕ) where
-  -- a place over 63 holds no case,
-  pub slot_past : places_most ≤ p → not (is_slot s p) ≡ true
-  unfolding is_slot
-  slot_past l = rw (le-ltb _ _ l)
+-- a place over 63 holds no case
+pub slot_past : (s : List ℕ) (p : ℕ) → places_most ≤ p → not (is_slot s p) ≡ true
+unfolding is_slot
+slot_past s p l = rw (le-ltb _ _ l)
 
-  -- and below that it is as its length byte says
-  pub slot_here : {b : Bool} → p < places_most → not (is_held s p) ≡ b → not (is_slot s p) ≡ b
-  unfolding is_slot
-  slot_here l h = rw (lt-ltb _ _ l) h
+-- a case that was read of a place that holds one, with the session's table
+pub bench_read : (s : List ℕ) (p : ℕ) {h : Head} {cells : List ℕ} {c : Case} → is_held s p ≡ true → h ≡ head_of s → cells ≡ cells_of s → c ≡ case_of s p
+    → Some (record { head = h; cells = cells; case = c }) ≡ bench_at s p
+bench_read s p held eh ec e = rw (held, eh, ec, e)

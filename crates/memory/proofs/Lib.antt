@@ -3,6 +3,7 @@ pub mod Checks
 pub mod Stored
 pub mod Stores
 pub mod Known
+pub mod Runs
 pub mod Held
 pub mod Started
 pub mod Answers

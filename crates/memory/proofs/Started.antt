@@ -18,7 +18,7 @@ use Rattle.machine.specs.Cell.{first_bad, TableIn}
 use Rattle.machine.specs.declared.head.Head.{Head}
 use Rattle.house.specs.File.{rest_at}
 use Rattle.house.specs.Table.{head_in, cells_in, table_bytes, table_read}
-use Rattle.house.specs.declared.table.TableFile.TheVariants.{Table}
+use Rattle.std.specs.Prelude.{Ok}
 use Rattle.house.proofs.Tables.{table_known, table_taken}
 use Rattle.memory.specs.Layout.{places_most, places_at, session_cells_at, cells_room, session_size, tallies_size, head_of, cells_of, place_at, steps_of, is_held, held_to, cases}
 use Rattle.memory.specs.Form.{good_table, zeros_after, good_place, Formed}
@@ -66,11 +66,11 @@ module _ (s file : List ℕ) (room : session_size ≤ length s) where
   started_none e = held_none (started s file) places_most (λ p l. rw (started_free e p l))
 
 -- the file of a table has no bytes past the cells
-pub table_short : (file : List ℕ) (h : Head) → table_read file ≡ Table h → length file ≤ places_at + rest_at
+pub table_short : (file : List ℕ) (h : Head) → table_read file ≡ Ok h → length file ≤ places_at + rest_at
 table_short file h read =
     let k = table_known file h read in omega (arith, k.1, cells_few h k.0.head)
 
-module _ (s file : List ℕ) (h : Head) (room : session_size ≤ length s) (read : table_read file ≡ Table h) where
+module _ (s file : List ℕ) (h : Head) (room : session_size ≤ length s) (read : table_read file ≡ Ok h) where
   -- after a start the session has the file's table
   pub started_table : (head_of (started s file) ≡ h)
       × ((c : ℕ) → c < 2 * cell_count h → get_or (cells_of (started s file)) c 0 ≡ get_or (cells_in file) c 0)
@@ -115,7 +115,7 @@ unfolding cleared
 cleared_zero t room f l = rw zero-add at (edit_in (λ f old. 0) 0 tallies_size t f l (omega arith))
 
 -- and the session is well-formed
-pub start_keeps : (s t file : List ℕ) (h : Head) → session_size ≤ length s → tallies_size ≤ length t → table_read file ≡ Table h
+pub start_keeps : (s t file : List ℕ) (h : Head) → session_size ≤ length s → tallies_size ≤ length t → table_read file ≡ Ok h
     → Formed (started s file) (cleared t)
 unfolding started cleared
 start_keeps s t file h room rest read =

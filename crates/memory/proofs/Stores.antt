@@ -1,16 +1,19 @@
--- What the stores of a case make together: a whole place stored. Assumes nothing.
-use Prim.Native.Nat.{ℕ, ◌+◌}
+-- What the stores of a case make together: a whole place stored; and what a part filled with zeros is. Assumes nothing.
+use Prim.Native.Nat.{ℕ, zero, suc, ◌+◌, ◌≤◌}
 use mathlib.Core.Path.{◌≡◌, sym}
-use mathlib.Core.List.{List}
-use native.Mathlib.Nat.{add-zero}
+use mathlib.Core.List.{List, ◌++◌}
+use native.Mathlib.Nat.{add-zero, zero-add}
+use native.Mathlib.Numerals.{add-one}
 use native.Mathlib.Omega.{arith}
-use lib.ListN.{length, set}
+use lib.ListN.{length, set, take, drop, replicate}
+use lib.Seq.{length-take-le}
+use Rattle.std.proofs.lemmas.List.Edits.{fill_none, fill_more}
 use Rattle.shapes.specs.Edit.{edit}
 use Rattle.shapes.proofs.Edit.{edit_same, edit_compose}
 use Rattle.machine.specs.Limits.{steps_most}
 use Rattle.machine.specs.Case.{Case}
-use Rattle.memory.specs.Layout.{place_size, place_at, place_byte}
-use Rattle.memory.specs.Store.{placed}
+use Rattle.memory.specs.Layout.{tallies_size, place_size, place_at, place_byte}
+use Rattle.memory.specs.Store.{placed, cleared}
 use Rattle.memory.specs.Loops.{steps_stored}
 use Rattle.memory.proofs.Stored.{byte_input, byte_output}
 
@@ -44,3 +47,14 @@ pub placed_from : (c : Case) (p : ℕ) (s s' s'' : List ℕ)
     → s'' ≡ steps_stored c.outputs (place_at p + 1 + steps_most) s' → s'' ≡ placed s p c
 unfolding placed
 placed_from c p s s' s'' e d = rw (d, e) (case_stored c (place_at p) s)
+
+-- the first numbers of a list changed to 0 are zeros before the rest of it
+zeros_edited : (n : ℕ) (l : List ℕ) → n ≤ length l → replicate n 0 ++ drop n l ≡ edit (λ i old. 0) 0 n l
+unfolding edit
+zeros_edited zero l h = sym (fill_none l 0)
+zeros_edited (suc n) l h = rw (← zeros_edited n l (omega arith), zero-add) (sym (rw add-one at (fill_more n 0 l (omega arith))))
+
+-- so tallies whose part in use was filled with 0 are cleared
+pub cleared_told : (t new : List ℕ) → tallies_size ≤ length t → new ≡ replicate (length (take tallies_size t)) 0 → new ++ drop tallies_size t ≡ cleared t
+unfolding cleared
+cleared_told t new h e = rw (e, length-take-le tallies_size t h) (zeros_edited tallies_size t h)

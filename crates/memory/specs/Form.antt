@@ -57,6 +57,12 @@ pub record Formed (s t : List ℕ) : Type 0 where
   pub tallies_room : tallies_size ≤ length t
   pub form : well_formed s t ≡ true
 
+-- what is known of a session whose table and places were tested, whatever its tallies
+pub record HeldIn (s : List ℕ) : Type 0 where
+  pub room : session_size ≤ length s
+  pub table : good_table s ≡ true
+  pub places : good_places s ≡ true
+
 -- "SHORT for session and tallies"
 unfoldable pub room_rules : List ℕ → List ℕ → List (Rule Refusal)
 room_rules s t = when (ltb (length s) session_size) (Short 0) ∷ when (ltb (length t) tallies_size) (Short 0) ∷ []

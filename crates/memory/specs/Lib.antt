@@ -1,4 +1,5 @@
 pub mod Layout
 pub mod Form
+pub mod Held
 pub mod Store
 pub mod Loops

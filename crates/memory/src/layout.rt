@@ -1,5 +1,6 @@
 // Where things stand in the session's bytes: n, k, m; the cells; 64 places.
 ghost use Rattle.std.specs.Prelude.{◌≡◌, ◌≤◌, ◌<◌, length};
+ghost use Rattle.shapes.specs.First.{found};
 ghost use Rattle.memory.specs.Layout.{places_most, session_size, head_of, free_place, cases};
 ghost use Rattle.memory.specs.Loops.{read_place};
 
@@ -58,20 +59,12 @@ pub fn head_of(session: &[u8]) -> Head
     }
 }
 
-// The lowest free place, or 64.
-pub fn free_place(session: &[u8]) -> usize
+// The lowest free place, if there is one.
+pub fn free_place(session: &[u8]) -> Option<usize>
     requires { session_size ≤ length session.now }
-    ensures { result ≡ free_place session.now }
+    ensures { result ≡ found (free_place session.now) places_most }
 {
-    let mut place = 0;
-    while place < Place::MOST {
-        let here = Place::of(session, place);
-        if here.steps == 0 {
-            return place;
-        }
-        place += 1;
-    }
-    place
+    (0..Place::MOST).find(|place| Place::of(session, *place).steps == 0)
 }
 
 // How many cases a session holds.
@@ -80,12 +73,7 @@ pub fn count_held(session: &[u8]) -> usize
     ensures value { result ≡ length (cases session.now) }
     ensures upper_bound { result ≤ places_most }
 {
-    let mut count = 0;
-    let mut place = 0;
-    while place < Place::MOST {
-        let here = Place::of(session, place);
-        count += (here.steps != 0) as usize;
-        place += 1;
-    }
-    count
+    (0..Place::MOST)
+        .filter(|place| Place::of(session, *place).steps != 0)
+        .count()
 }

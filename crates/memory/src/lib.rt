@@ -4,7 +4,11 @@
 
 // Where things stand in the session's bytes.
 pub mod layout;
-// Whether a session is well-formed, and whether a place holds a case.
+// Whether a session is well-formed.
 pub mod form;
+// A session that is: its table and its cases.
+pub mod view;
+// Whether a place holds a case.
+pub mod slot;
 // Cases stored and cleared.
 pub mod store;

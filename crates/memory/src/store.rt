@@ -14,10 +14,7 @@ use machine::replay::Replay;
 fn byte_or_zero(from: &[u8], at: usize) -> u8
     ensures { result ≡ get_or from.now at 0 }
 {
-    if at < from.len() {
-        return from[at];
-    }
-    0
+    from.get(at).copied().unwrap_or(0)
 }
 
 // Stores a case in a place, with zeros after; with no inputs and no outputs it clears the place.
@@ -37,9 +34,7 @@ pub fn clear_place(session: &mut [u8], place: usize)
     requires { (session_size ≤ length session.old) × (place < places_most) }
     ensures { session.new ≡ placed session.old place no_case }
 {
-    let zero = [0u8; 1];
-    let nothing = &zero[0..0];
-    store_case(session, place, nothing, nothing);
+    store_case(session, place, &[], &[]);
 }
 
 // Stores the inputs or the outputs of a case, with zeros after.
@@ -47,10 +42,8 @@ fn store_steps(session: &mut [u8], at: usize, from: &[u8])
     requires { at + steps_most ≤ length session.old }
     ensures { session.new ≡ steps_stored from.now at session.old }
 {
-    let mut i = 0;
-    while i < Replay::STEPS {
+    for i in 0..Replay::STEPS {
         session[at + i] = byte_or_zero(from, i);
-        i += 1;
     }
 }
 
@@ -59,10 +52,8 @@ pub fn store_table(session: &mut [u8], file: &[u8])
     requires { session_size ≤ length session.old }
     ensures { session.new ≡ started session.old file.now }
 {
-    let mut i = 0;
-    while i < SESSION {
+    for i in 0..SESSION {
         session[i] = byte_or_zero(file, REST + i);
-        i += 1;
     }
 }
 
@@ -71,9 +62,5 @@ pub fn clear_tallies(tallies: &mut [u16])
     requires { tallies_size ≤ length tallies.old }
     ensures { tallies.new ≡ cleared tallies.old }
 {
-    let mut number = 0;
-    while number < TALLIES {
-        tallies[number] = 0;
-        number += 1;
-    }
+    tallies[..TALLIES].fill(0);
 }

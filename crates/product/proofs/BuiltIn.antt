@@ -20,9 +20,8 @@ use Rattle.house.specs.Refusal.{wrote}
 use Rattle.house.specs.File.{file_head}
 use Rattle.house.specs.Table.{file_cells_at, cells_in, table_read, table_bytes, table_head_bytes, table_file}
 use Rattle.house.specs.declared.refusal.Refusal.TheVariants.{Short}
-use Rattle.house.specs.declared.refusal.Answer.{Answer}
-use Rattle.house.specs.declared.refusal.Answer.TheVariants.{Done, Refused}
-use Rattle.house.specs.declared.table.TableFile.TheVariants.{Table}
+use Rattle.house.specs.declared.refusal.Refusal.{Refusal}
+use Rattle.std.specs.Prelude.{Result, Ok, Err}
 use Rattle.house.proofs.Tables.{table_reads_back}
 use Rattle.product.specs.Tables.{product_head, product_cells, written}
 use Rattle.product.specs.declared.Product.{Product}
@@ -47,23 +46,23 @@ built_in_bytes EightLitre = refl
 
 -- the file written reads as that table, cell by cell
 pub built_in_reads : (m : Product)
-    → (table_read (table_file (product_head m) (product_cells m)) ≡ Table (product_head m)) × (cells_in (table_file (product_head m) (product_cells m)) ≡ product_cells m)
+    → (table_read (table_file (product_head m) (product_cells m)) ≡ Ok (product_head m)) × (cells_in (table_file (product_head m) (product_cells m)) ≡ product_cells m)
 built_in_reads m = let t = table_reads_back (product_head m) (product_cells m) (built_in_table m) in (t.0, t.1 ∙ cells_whole m)
 
 module _ (m : Product) (out : List ℕ) where
   -- where there is less room than the file has bytes, SHORT carries these and nothing is written
-  pub built_in_short : length out < table_bytes (product_head m) → written m out ≡ wrote (Refused (Short (table_bytes (product_head m)))) out
+  pub built_in_short : length out < table_bytes (product_head m) → written m out ≡ wrote (Err (Short (table_bytes (product_head m)))) out
   unfolding written ruling
   built_in_short l = rw (lt-ltb _ _ l)
 
   -- else the file is written, and its bytes answered
   pub built_in_written : table_bytes (product_head m) ≤ length out
-      → written m out ≡ wrote (Done (table_bytes (product_head m))) (filled out 0 (table_file (product_head m) (product_cells m)))
+      → written m out ≡ wrote (Ok (table_bytes (product_head m))) (filled out 0 (table_file (product_head m) (product_cells m)))
   unfolding written ruling
   built_in_written l = rw (le-ltb _ _ l)
 
   -- so an answered count of bytes is within what is left in the buffer
-  pub built_in_fits : {r : Answer} {last : List ℕ} {n : ℕ} → wrote r last ≡ written m out → r ≡ Done n → n ≤ length last
+  pub built_in_fits : {r : Result ℕ Refusal} {last : List ℕ} {n : ℕ} → wrote r last ≡ written m out → r ≡ Ok n → n ≤ length last
   built_in_fits {r} {last} {n} e t = go (ltb (length out) (table_bytes (product_head m))) refl
     where
       go : (b : Bool) → ltb (length out) (table_bytes (product_head m)) ≡ b → n ≤ length last
@@ -83,17 +82,12 @@ module _ (m : Product) (out : List ℕ) where
     count_known = omega (arith, ap cell_count eh)
 
     -- so the code's refusal is this one,
-    pub short_told : length out < file_cells_at + 2 * cells → wrote (Refused (Short (file_cells_at + 2 * cells))) out ≡ written m out
+    pub short_told : length out < file_cells_at + 2 * cells → wrote (Err (Short (file_cells_at + 2 * cells))) out ≡ written m out
     short_told l = rw count_known (sym (built_in_short (rw count_known at l)))
 
-    -- there is room for the cells after what stands before them,
-    pub room_told : {before : List ℕ} → file_cells_at + 2 * cells ≤ length out → before ≡ filled out 0 (table_head_bytes h)
-        → table_bytes (product_head m) ≤ length before
-    room_told l b = rw (b, length_filled) (rw count_known at l)
-
-    -- and they make the table file
+    -- and what it writes is the table file
     pub file_told : {before last : List ℕ} → file_cells_at + 2 * cells ≤ length out → before ≡ filled out 0 (table_head_bytes h)
-        → last ≡ filled before file_cells_at (product_cells m) → wrote (Done (file_cells_at + 2 * cells)) last ≡ written m out
+        → last ≡ filled before file_cells_at (product_cells m) → wrote (Ok (file_cells_at + 2 * cells)) last ≡ written m out
     unfolding table_file table_head_bytes file_head
     file_told {last = last} l b e =
         let whole : last ≡ filled out 0 (table_file (product_head m) (product_cells m)) = rw (e, b, eh, cells_whole m) (filled_append out 0 (table_head_bytes (product_head m)) (product_cells m)) in

@@ -6,7 +6,7 @@ use mathlib.Core.List.{List, [], ◌∷◌}
 use native.Mathlib.Omega.{arith}
 use lib.ListN.{length, get_or, set}
 use Rattle.shapes.specs.Edit.{edit, filled}
-use Rattle.shapes.proofs.Edit.{edit_none, edit_turn, length_edit}
+use Rattle.shapes.proofs.Edit.{edit_none, edit_turn}
 use Rattle.machine.specs.Head.{cell_count}
 use Rattle.machine.specs.Cell.{next_byte, output_byte}
 use Rattle.house.specs.Table.{file_cells_at}
@@ -58,11 +58,6 @@ module _ (m : Product) (l : List ℕ) where
   pub put_none : l ≡ put_to m 0 l
   unfolding put_to edit
   put_none = sym (edit_none (λ i old. get_or (product_cells m) i 0) file_cells_at l)
-
-  -- the length stays
-  pub put_length : (n : ℕ) → length (put_to m n l) ≡ length l
-  unfolding put_to edit
-  put_length n = length_edit (λ i old. get_or (product_cells m) i 0) file_cells_at n l
 
   -- a loop's turn: two numbers more are stored
   pub put_turn : {done : List ℕ} (cell : ℕ) {a b : ℕ} → done ≡ put_to m (2 * cell) l → a ≡ get_or (product_cells m) (2 * cell) 0

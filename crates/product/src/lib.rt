@@ -11,7 +11,7 @@ ghost use Rattle.house.specs.Table.{table_bytes, file_cells_at};
 ghost use Rattle.product.specs.Tables.{product_head, product_cells, written};
 ghost use Rattle.product.specs.declared.Product.TheVariants.{FiveLitre, EightLitre};
 
-use house::refusal::{Answer, Refusal};
+use house::refusal::Refusal;
 use house::table::{FILE_CELLS_AT, put_table_head};
 use machine::cell::UNDEFINED;
 use machine::head::Head;
@@ -23,7 +23,7 @@ struct Entry {
     output: u8,
 }
 
-#[derive(Clone, Copy)]
+#[derive(Clone, Copy, Debug, PartialEq, Eq)]
 pub enum Product {
     FiveLitre,
     EightLitre,
@@ -31,8 +31,8 @@ pub enum Product {
 
 // A cell where the table has nothing.
 const NOTHING: Entry = Entry {
-    next: UNDEFINED as u8,
-    output: UNDEFINED as u8,
+    next: UNDEFINED,
+    output: UNDEFINED,
 };
 
 const FIVE_LITRE: [Entry; 12] = [
@@ -105,38 +105,36 @@ fn put_cells(product: Product, out: &mut [u8])
     ensures { out.new ≡ filled out.old file_cells_at (product_cells product) }
 {
     let count = product.head().cells();
-    let mut cell = 0;
-    while cell < count {
+    for cell in 0..count {
         let entry = product.entry(cell);
         out[FILE_CELLS_AT + 2 * cell] = entry.next;
         out[FILE_CELLS_AT + 2 * cell + 1] = entry.output;
-        cell += 1;
     }
 }
 
 // Writes a product's table as a table file.
-fn write_product(product: Product, out: &mut [u8]) -> Answer
+fn write_product(product: Product, out: &mut [u8]) -> Result<usize, Refusal>
     ensures { wrote result out.new ≡ written product out.old }
 {
     let head = product.head();
     let bytes = FILE_CELLS_AT + 2 * head.cells();
     if out.len() < bytes {
-        return Answer::Refused(Refusal::Short(bytes));
+        return Err(Refusal::Short(bytes));
     }
     put_table_head(out, head);
     put_cells(product, out);
-    Answer::Done(bytes)
+    Ok(bytes)
 }
 
 // Writes the five-litre table, 30 bytes.
-pub fn five_litre(out: &mut [u8]) -> Answer
+pub fn five_litre(out: &mut [u8]) -> Result<usize, Refusal>
     ensures { wrote result out.new ≡ written FiveLitre out.old }
 {
     write_product(Product::FiveLitre, out)
 }
 
 // Writes the eight-litre table, 36 bytes.
-pub fn eight_litre(out: &mut [u8]) -> Answer
+pub fn eight_litre(out: &mut [u8]) -> Result<usize, Refusal>
     ensures { wrote result out.new ≡ written EightLitre out.old }
 {
     write_product(Product::EightLitre, out)

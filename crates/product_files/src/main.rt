@@ -1,30 +1,24 @@
 // Writes the five-litre table file and then the eight-litre one to standard output, as raw bytes.
 #![tactic(auto)]
 
-use house::refusal::Answer;
+ghost use Rattle.std.specs.Prelude.{◌≡◌, ℕ, ◌≤◌, length};
+
+use house::refusal::Refusal;
 use product::{eight_litre, five_litre};
 use std::io;
 
-// Writes the five-litre table file by way of `out`.
-fn show_five(rt: &impl Print, out: &mut [u8]) -> io::Result<()> {
-    let answer = five_litre(out);
-    if let Answer::Done(bytes) = answer {
-        rt.write_all(&out[0..bytes])?;
+// Writes a table file that a call has put into `out`.
+fn show(rt: &impl Print, answer: Result<usize, Refusal>, out: &[u8]) -> io::Result<()>
+    requires { (bytes : ℕ) → answer ≡ Ok bytes → bytes ≤ length out.now }
+{
+    match answer {
+        Ok(bytes) => rt.write_all(&out[..bytes]),
+        Err(_) => Ok(()),
     }
-    Ok(())
-}
-
-// Writes the eight-litre table file by way of `out`.
-fn show_eight(rt: &impl Print, out: &mut [u8]) -> io::Result<()> {
-    let answer = eight_litre(out);
-    if let Answer::Done(bytes) = answer {
-        rt.write_all(&out[0..bytes])?;
-    }
-    Ok(())
 }
 
 fn main(rt: HostRuntime) -> io::Result<()> {
-    let mut out = [0u8; 64];
-    show_five(&rt, &mut out)?;
-    show_eight(&rt, &mut out)
+    let mut out = [0; 64];
+    show(&rt, five_litre(&mut out), &out)?;
+    show(&rt, eight_litre(&mut out), &out)
 }

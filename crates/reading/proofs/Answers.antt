@@ -3,6 +3,8 @@
 use Prim.Native.Nat.{ℕ}
 use mathlib.Core.Path.{◌≡◌, refl, sym, ◌∙◌}
 use mathlib.Core.List.{List}
+use Rattle.std.specs.Prelude.{Result}
+use Rattle.house.specs.declared.refusal.Refusal.{Refusal}
 use Rattle.shapes.specs.OneAnswer.{OneAnswer}
 use Rattle.reading.specs.Reads.{Listed, listed}
 use Rattle.reading.specs.declared.list.Listing.{Listing}
@@ -13,7 +15,7 @@ use Rattle.reading.proofs.list.is_some_failing.Reads as is_some_failing_reads
 use Rattle.reading.proofs.audit.audit.Kinds as audit_kinds
 use Rattle.reading.proofs.audit.audit.Reads as audit_reads
 
-listed_one : (r r' : Listing) (l l' : List ℕ) (x : Listed) → listed r l ≡ x → listed r' l' ≡ x → (r ≡ r') × (l ≡ l')
+listed_one : (r r' : Result Listing Refusal) (l l' : List ℕ) (x : Listed) → listed r l ≡ x → listed r' l' ≡ x → (r ≡ r') × (l ≡ l')
 listed_one r r' l l' x p q = (cc, cc)
 
 pub list_one : OneAnswer list_kinds.ps list_kinds.r list_reads.Post

@@ -2,12 +2,12 @@
 use Prim.Native.Nat.{ℕ}
 use mathlib.Core.Path.{◌≡◌, ◌∙◌}
 use mathlib.Core.List.{List}
+use Rattle.std.specs.Prelude.{None, Ok}
 use Rattle.diagnosis.specs.Diagnosis.{list, some_fails, verdict_of}
 use Rattle.diagnosis.proofs.Same.{list_same, some_fails_same}
 use Rattle.memory.specs.Layout.{head_of, cells_of, cases}
 use Rattle.reading.specs.Reads.{list_of, verdict_in, audit_call}
 use Rattle.session.specs.History.{Model, cases_held, Shows}
-use Rattle.reading.specs.declared.audit.Audited as Audited_type
 use Rattle.reading.proofs.Listed.{list_by_replay}
 use Rattle.reading.proofs.Told.{audit_true_exactly}
 use Rattle.session.proofs.Histories.{shown_cases, shown_table, shown_good}
@@ -32,5 +32,5 @@ module _ (s t : List ℕ) (m : Model) (k : Shows s t m) where
   shown_verdict = λ i. verdict_of (shown_fails i) (shown_list i)
 
   -- an audit says true
-  pub shown_audit : audit_call s t ≡ Audited_type.TheVariants.True
+  pub shown_audit : audit_call s t ≡ Ok None
   shown_audit = (audit_true_exactly s t).1 (k.formed, k.true_tallies)

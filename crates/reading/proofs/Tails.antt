@@ -4,18 +4,18 @@ use Prim.Native.Nat.{ℕ}
 use mathlib.Core.Path.{◌≡◌, refl}
 use mathlib.Core.List.{List}
 use lib.ListN.{length}
+use Rattle.std.specs.Prelude.{Ok, Err}
 use Rattle.shapes.specs.Edit.{KeptFrom}
 use Rattle.shapes.specs.Refusals.{Ruling, fine, refused, ruling}
 use Rattle.shapes.proofs.Edit.{filled_keeps}
 use Rattle.house.specs.declared.refusal.Refusal.{Refusal}
 use Rattle.diagnosis.specs.declared.Verdict.{Verdict}
 use Rattle.reading.specs.Reads.{list_of, verdict_in, list_rules, Listed, listed, listed_or, list_call}
-use Rattle.reading.specs.declared.list.Listing.TheVariants as listings
 
 -- the buffer for numbers that listing leaves: after a refusal the whole of it is as it was, else all from entry n on
 abbrev pub ListTail : ℕ → List ℕ → Listed → Type 0
-ListTail n old (listed (listings.Faults v m) new) = KeptFrom n old new
-ListTail n old (listed (listings.Refused r) new) = new ≡ old
+ListTail n old (listed (Ok x) new) = KeptFrom n old new
+ListTail n old (listed (Err r) new) = new ≡ old
 
 -- listing leaves the tail that its writing leaves
 listed_tail : (w : Ruling Refusal) (v : Verdict) (m n : ℕ) (old new : List ℕ) → KeptFrom n old new → ListTail n old (listed_or w v m old new)

@@ -10,6 +10,7 @@ use native.Mathlib.Omega.{arith}
 use lib.Dec.{ltb}
 use borrow.Author.Tests.{ltb-true, ltb-false, le-ltb, lt-ltb, eq-eqb, eqb-true, not-true, not-false}
 use lib.ListN.{length, get_or}
+use Rattle.std.specs.Prelude.{Some, None, Ok}
 use Rattle.shapes.specs.Edit.{filled}
 use Rattle.shapes.specs.Refusals.{Ruling, fine, refused, ruling}
 use Rattle.shapes.proofs.First.{first_holds, first_before, first_none}
@@ -21,18 +22,17 @@ use Rattle.memory.specs.Layout.{head_of, cells_of, cases}
 use Rattle.memory.specs.Form.{Formed, form_rules}
 use Rattle.memory.proofs.Known.{rules_formed, formed_rules}
 use Rattle.tallies.specs.Tallies.{TrueTallies}
-use Rattle.reading.specs.Reads.{listed, list_of, list_rules, list_call, verdict_in, LowestFalse, false_tally, audit_if, audit_or, audit_call}
-use Rattle.reading.specs.declared.list.Listing.TheVariants.{Faults}
-use Rattle.reading.specs.declared.audit.Audited as Audited_type
+use Rattle.reading.specs.Reads.{faults, listed, list_of, list_rules, list_call, verdict_in, LowestFalse, false_tally, audit_if, audit_call}
+use Rattle.house.specs.Refusal.{ruled}
 use Rattle.reading.proofs.Listed.{false_at, list_by_replay}
 
 -- an audit that answers true or a number was let pass, and says which by its test
-audited_true : (v : Ruling Refusal) (b : Bool) (g : ℕ) → audit_or v (audit_if b g) ≡ Audited_type.TheVariants.True → (v ≡ fine) × (b ≡ false)
+audited_true : (v : Ruling Refusal) (b : Bool) (g : ℕ) → ruled v (audit_if b g) ≡ Ok None → (v ≡ fine) × (b ≡ false)
 audited_true fine true g e = (refl, cc)
 audited_true fine false g e = (refl, refl)
 audited_true (refused r) b g e = (cc, cc)
 
-audited_false : (v : Ruling Refusal) (b : Bool) (g f : ℕ) → audit_or v (audit_if b g) ≡ Audited_type.TheVariants.False f
+audited_false : (v : Ruling Refusal) (b : Bool) (g f : ℕ) → ruled v (audit_if b g) ≡ Ok (Some f)
     → (v ≡ fine) × ((b ≡ true) × (g ≡ f))
 audited_false fine true g f e = (refl, (refl, cc))
 audited_false fine false g f e = (refl, (cc, cc))
@@ -51,7 +51,7 @@ module _ (s t : List ℕ) where
       let e = first_none (false_at s t) 0 (numbers (head_of s)) (λ f low l. rw (now f (omega arith), eq-eqb _ _ refl)) in omega arith
 
   -- "An audit answers whether every tally is true": true exactly if the session is long enough and well-formed, and every tally in use counts afresh
-  pub audit_true_exactly : (audit_call s t ≡ Audited_type.TheVariants.True) ↔ (Formed s t × TrueTallies s t)
+  pub audit_true_exactly : (audit_call s t ≡ Ok None) ↔ (Formed s t × TrueTallies s t)
   unfolding audit_call
   audit_true_exactly = (
     λ e.
@@ -89,7 +89,7 @@ module _ (s t : List ℕ) where
           let y = ltb-false f (false_tally s t) eb in omega arith
 
   -- "else the lowest number that is false": f exactly if the session is long enough and well-formed and f is that number
-  pub audit_false_exactly : (f : ℕ) → (audit_call s t ≡ Audited_type.TheVariants.False f) ↔ (Formed s t × LowestFalse s t f)
+  pub audit_false_exactly : (f : ℕ) → (audit_call s t ≡ Ok (Some f)) ↔ (Formed s t × LowestFalse s t f)
   unfolding audit_call
   audit_false_exactly f = (
     λ e.
@@ -103,7 +103,7 @@ module _ (s t : List ℕ) where
 module _ (s t : List ℕ) (k : Formed s t) where
   -- in a well-formed session, and with room, the list call answers the verdict and the count and leaves the list by tallies,
   pub list_formed : (out : List ℕ) → length (list_of s t) ≤ length out
-      → list_call s t out ≡ listed (Faults (verdict_in s t) (length (list_of s t))) (filled out 0 (list_of s t))
+      → list_call s t out ≡ listed (faults (verdict_in s t) (length (list_of s t))) (filled out 0 (list_of s t))
   unfolding list_call list_rules ruling
   list_formed out room = rw (ruling_join_fine (form_rules s t) _ (formed_rules s t k), le-ltb (length out) (length (list_of s t)) room)
 
@@ -111,7 +111,7 @@ module _ (s t : List ℕ) (k : Formed s t) where
 pub list_answers : (s t out : List ℕ) → Formed s t → TrueTallies s t → length (list (head_of s) (cells_of s) (cases s)) ≤ length out
     → list_call s t out
     ≡ listed
-    (Faults (verdict_of (some_fails (head_of s) (cells_of s) (cases s)) (list (head_of s) (cells_of s) (cases s))) (length (list (head_of s) (cells_of s) (cases s))))
+    (faults (verdict_of (some_fails (head_of s) (cells_of s) (cases s)) (list (head_of s) (cells_of s) (cases s))) (length (list (head_of s) (cells_of s) (cases s))))
     (filled out 0 (list (head_of s) (cells_of s) (cases s)))
 unfolding verdict_in
 list_answers s t out k now room =

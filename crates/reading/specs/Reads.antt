@@ -1,6 +1,6 @@
 -- The list and the audit of a session (document 01, "Symptoms, conflict sets, verdict", "Session memory"): each is its rules in the paper's order, an
 -- output buffer's SHORT last, and what it answers and writes where none refuses.
-use Rattle.std.specs.Prelude.{ℕ, ◌<◌, ◌≡◌, List, [], ◌∷◌, ◌++◌, Bool, true, false, not, ◌&&◌, eqb, ltb, length, get_or}
+use Rattle.std.specs.Prelude.{ℕ, ◌<◌, ◌≡◌, List, [], ◌∷◌, ◌++◌, Bool, true, false, not, ◌&&◌, eqb, ltb, length, get_or, Option, Some, None, Result, Ok, Err}
 use Rattle.shapes.specs.First.{first}
 use Rattle.shapes.specs.Edit.{filled}
 use Rattle.shapes.specs.Keep.{keep_to}
@@ -15,8 +15,8 @@ use Rattle.diagnosis.specs.Diagnosis.{tally, some_fails, verdict_of}
 use Rattle.diagnosis.specs.declared.Verdict.{Verdict}
 use Rattle.memory.specs.Layout.{head_of, cells_of, cases}
 use Rattle.memory.specs.Form.{form_rules}
-use Rattle.reading.specs.declared.list.Listing as Listing_type
-use Rattle.reading.specs.declared.audit.Audited as Audited_type
+use Rattle.house.specs.Refusal.{ruled}
+use Rattle.reading.specs.declared.list.Listing.{Listing}
 
 -- the specified machine of a session's table
 abbrev pub machine_of : List ℕ → Machine
@@ -39,11 +39,15 @@ list_rules s t out = form_rules s t ++ (when (ltb (length out) (length (list_of 
 
 -- what listing answers, with what it leaves in the buffer for the numbers
 pub data Listed : Type 0 where
-  listed : Listing_type.Listing → List ℕ → Listed
+  listed : Result Listing Refusal → List ℕ → Listed
+
+-- a listing that answers: the verdict, and how many faults are listed
+abbrev pub faults : Verdict → ℕ → Result Listing Refusal
+faults v n = Ok (record { verdict = v; count = n })
 
 abbrev pub listed_or : Ruling Refusal → Verdict → ℕ → List ℕ → List ℕ → Listed
-listed_or fine v n old new = listed (Listing_type.TheVariants.Faults v n) new
-listed_or (refused r) v n old new = listed (Listing_type.TheVariants.Refused r) old
+listed_or fine v n old new = listed (faults v n) new
+listed_or (refused r) v n old new = listed (Err r) old
 
 unfoldable pub list_call : List ℕ → List ℕ → List ℕ → Listed
 list_call s t out = listed_or (ruling (list_rules s t out)) (verdict_in s t) (length (list_of s t)) out (filled out 0 (list_of s t))
@@ -58,13 +62,9 @@ pub record LowestFalse (s t : List ℕ) (f : ℕ) : Type 0 where
   pub untrue : get_or t f 0 ≡ tally (head_of s) (cells_of s) (cases s) f → ⊥
   pub lower_true : (g : ℕ) → g < f → get_or t g 0 ≡ tally (head_of s) (cells_of s) (cases s) g
 
-abbrev pub audit_if : Bool → ℕ → Audited_type.Audited
-audit_if true f = Audited_type.TheVariants.False f
-audit_if false f = Audited_type.TheVariants.True
+abbrev pub audit_if : Bool → ℕ → Option ℕ
+audit_if true f = Some f
+audit_if false f = None
 
-abbrev pub audit_or : Ruling Refusal → Audited_type.Audited → Audited_type.Audited
-audit_or fine a = a
-audit_or (refused r) a = Audited_type.TheVariants.Refused r
-
-unfoldable pub audit_call : List ℕ → List ℕ → Audited_type.Audited
-audit_call s t = audit_or (ruling (form_rules s t)) (audit_if (ltb (false_tally s t) (numbers (head_of s))) (false_tally s t))
+unfoldable pub audit_call : List ℕ → List ℕ → Result (Option ℕ) Refusal
+audit_call s t = ruled (ruling (form_rules s t)) (audit_if (ltb (false_tally s t) (numbers (head_of s))) (false_tally s t))

@@ -10,57 +10,43 @@ use native.Mathlib.Nat.{zero-add, eq-or-lt_of_le}
 use native.Mathlib.Numerals.{add-one}
 use native.Mathlib.Omega.{arith}
 use borrow.Author.Tests.{lt-ltb, le-ltb}
-use lib.ListN.{length, get_or, length-append, length-drop}
-use lib.Seq.{length-take-le}
-use Rattle.shapes.specs.Edit.{edit, filled, place_after}
+use lib.ListN.{length, get_or, length-append}
+use Rattle.shapes.specs.Edit.{edit, filled}
 use Rattle.shapes.specs.Keep.{bit, every}
 use Rattle.shapes.specs.Refusals.{Rule, when, fine, refused, ruling}
 use Rattle.shapes.proofs.Edit.{length_edit, edit_in, edit_out_above, edit_kept, edit_ext, length_filled, filled_append}
 use Rattle.shapes.proofs.Refusals.{ruling_here, ruling_past, ruling_end, ruling_join_refused, ruling_join_fine}
-use Rattle.machine.specs.Limits.{cells_most, steps_most}
+use Rattle.machine.specs.Limits.{cells_most}
 use Rattle.machine.specs.Machine.{Machine, specified}
 use Rattle.machine.specs.Case.{Case}
+use Rattle.machine.specs.Runs.{Bench, bench_of, run_case}
+use Rattle.machine.specs.declared.replay.Run.{Run}
+use Rattle.std.specs.Prelude.{Option, Some, None, Result, Ok, Err}
+use Rattle.std.specs.Option.{option_map}
 use Rattle.machine.specs.Run.{symptoms_of}
 use Rattle.machine.specs.declared.head.Head.{Head}
 use Rattle.machine.specs.declared.replay.Symptoms.{Symptoms}
 use Rattle.house.specs.File.{version, rest_at, file_head, file_of}
 use Rattle.house.specs.Cases.{case_bytes, rest_of, record_file}
 use Rattle.house.specs.Refusal.{checked, wrote}
-use Rattle.house.specs.declared.refusal.Checked as Checked_type
-use Rattle.house.specs.declared.refusal.Answer as Answer_type
 use Rattle.house.specs.declared.refusal.Refusal.{Refusal}
 use Rattle.house.specs.declared.refusal.Refusal.TheVariants.{Short}
 use Rattle.diagnosis.specs.Diagnosis.{fails, some_fails, conflicts, conflict_bytes, is_candidate}
 use Rattle.diagnosis.specs.Loops.{narrowed, Bits, spread}
-use Rattle.memory.specs.Layout.{places_most, session_size, head_of, cells_of, steps_of, is_held, case_of, case_if, held_to, cases}
-use Rattle.memory.specs.Form.{good_place, form_rules, slot_rules}
-use Rattle.memory.specs.Loops.{read_place}
-use Rattle.report.specs.declared.conflicts.Shown.TheVariants as shows
+use Rattle.memory.specs.Layout.{places_most, is_held, case_of, case_if, held_to, cases}
+use Rattle.memory.specs.Form.{form_rules, slot_rules}
 use Rattle.report.specs.Reports.{symptoms_call, save_rules, save_call, bytes_rules, conflict_call, candidate_bytes, candidates_call}
 use Rattle.reading.specs.Reads.{machine_of}
-use Rattle.report.specs.Loops.{bytes_at, narrowed_if, narrowed_all, narrowed_at}
-use Rattle.memory.specs.declared.layout.Place.{Place}
-use Rattle.house.proofs.Forms.{checked_fine, checked_refused}
+use Rattle.report.specs.Loops.{bytes_at, narrowed_if, narrowed_all}
 use Rattle.house.proofs.Records.{record_size, rest_append}
-use Rattle.memory.proofs.Formed.{place_few}
-use Rattle.memory.proofs.Known.{case_read, parts_read, told_fine, told_refused, held_read, free_read, place_within}
+use Rattle.memory.proofs.Known.{told_fine, told_refused}
+use Rattle.memory.proofs.Runs.{run_held, run_free}
+use Rattle.memory.specs.Held.{bench_in, bench_at}
 
--- a place inside a session, with at most 64 steps
-module _ (s : List ℕ) (p : ℕ) (room : session_size ≤ length s) (inside : p < places_most) (few : steps_of s p ≤ steps_most) where
-  -- its case has as many inputs as its length byte says,
-  inputs_long : length (case_of s p).inputs ≡ steps_of s p
-  unfolding case_of
-  inputs_long = length-take-le _ _ (rw length-drop (omega arith))
-
-  -- and as many outputs,
-  outputs_long : length (case_of s p).outputs ≡ steps_of s p
-  unfolding case_of
-  outputs_long = length-take-le _ _ (rw length-drop (omega arith))
-
-  -- so it takes a byte and two for each step
-  case_long : length (case_bytes (case_of s p)) ≡ 1 + 2 * steps_of s p
-  unfolding case_bytes
-  case_long = rw (length-append, inputs_long, outputs_long) (omega arith)
+-- a case with as many outputs as inputs takes a byte and two for each step
+case_long : (c : Case) → length c.outputs ≡ length c.inputs → length (case_bytes c) ≡ 1 + 2 * length c.inputs
+unfolding case_bytes
+case_long c even = rw (length-append, even) (omega arith)
 
 -- one case, or none, as bytes
 rest_one : (c : Case) → rest_of (case_if true c) ≡ case_bytes c
@@ -76,46 +62,20 @@ pub filled_none : (l : List ℕ) (at : ℕ) → filled l at [] ≡ l
 unfolding filled edit
 filled_none l at = refl
 
--- a good place that was read
-module _ (s : List ℕ) (p : ℕ) (room : session_size ≤ length s) (inside : p < places_most) (good : good_place s p ≡ true) {here : Place}
-    (e : here ≡ read_place s p) where
-  -- the bytes of a free place: none
-  pub bytes_free : here.steps ≡ 0 → bytes_at s p ≡ []
-  bytes_free z = rw (free_read s p e z) (rest_none (case_of s p))
+-- what is told of the run of a place
+module _ (s : List ℕ) (p : ℕ) (o : Option Run) (e : option_map bench_of o ≡ bench_at s p) where
+  -- where there is none the place has no bytes
+  pub bytes_free : o ≡ None → bytes_at s p ≡ []
+  bytes_free d = rw (run_free s p o e d) (rest_none (case_of s p))
 
-  -- those of a held one: its case's,
-  bytes_held : (here.steps ≡ 0 → ⊥) → bytes_at s p ≡ case_bytes (case_of s p)
-  bytes_held z = rw (held_read s p e z) (rest_one (case_of s p))
+  module _ {r : Run} (d : o ≡ Some r) where
+    -- where there is one they are its case's,
+    pub bytes_held : bytes_at s p ≡ case_bytes (run_case r)
+    bytes_held = let k = run_held s p o e d in rw (k.0, rest_one, ap (λ (b : Bench). b.case) k.1)
 
-  -- as many as the code counts
-  pub bytes_count : (here.steps ≡ 0 → ⊥) → 1 + 2 * here.steps ≡ length (bytes_at s p)
-  bytes_count z =
-      rw (bytes_held z, case_long s p room inside (place_few s p good)) (omega (arith, place_within s p e good))
-
-  -- a held place's case can be written where its bytes have room,
-  pub put_fits : {c : Case} (at n : ℕ) → c ≡ case_of s p → (here.steps ≡ 0 → ⊥)
-      → at + length (bytes_at s p) ≤ n
-      → ((length c.inputs ≤ steps_most) × (length c.outputs ≡ length c.inputs)) × (at + 1 + 2 * length c.inputs ≤ n)
-  put_fits at n ec z fits =
-      let few = place_few s p good in
-      let i = inputs_long s p room inside few in
-      let o = outputs_long s p room inside few in
-      rw ec ((omega arith, o ∙ sym i), omega (arith, bytes_count z, place_within s p e good))
-
-  -- and once written it stands there
-  pub put_bytes : {c : Case} (at r : ℕ) (l out : List ℕ) → c ≡ case_of s p → (here.steps ≡ 0 → ⊥)
-      → (r ≡ place_after at (case_bytes c)) × (l ≡ filled out at (case_bytes c))
-      → (r ≡ place_after at (bytes_at s p)) × (l ≡ filled out at (bytes_at s p))
-  put_bytes at r l out ec z k = rw (bytes_held z) (rw ec at k)
-
-  -- a free place leaves the candidates,
-  pub free_narrows : (out : List ℕ) → here.steps ≡ 0 → out ≡ narrowed_at s p out
-  free_narrows out z = rw (free_read s p e z)
-
-  -- and a held one narrows them by its case
-  pub held_narrows : {h : Head} {c : Case} (l out : List ℕ) → h ≡ head_of s → c ≡ case_of s p → (here.steps ≡ 0 → ⊥)
-      → l ≡ narrowed (specified h (cells_of s)) c out → l ≡ narrowed_at s p out
-  held_narrows l out eh ec z k = rw (held_read s p e z) (rw (eh, ec) at k)
+    -- as many as the code counts
+    pub bytes_count : 1 + 2 * length r.inputs.now ≡ length (bytes_at s p)
+    bytes_count = rw bytes_held (sym (case_long (run_case r) r.fits.even))
 
 module _ (s : List ℕ) where
   -- the bytes of the cases held below the next place
@@ -185,26 +145,26 @@ last_passes : {b : Bool} (l : List (Rule Refusal)) (r : Refusal) → ruling l �
 last_passes l r f e = ruling_join_fine l _ f ∙ (ruling_past r [] e ∙ ruling_end)
 
 -- what the check of a session's form found
-module _ (s t : List ℕ) {x : Checked_type.Checked} (e : x ≡ checked (ruling (form_rules s t))) where
+module _ (s t : List ℕ) {x : Result (Unit {0}) Refusal} (e : x ≡ checked (ruling (form_rules s t))) where
   -- where it refuses, so do saving and the candidates
-  pub save_refused : {r : Refusal} (out : List ℕ) → x ≡ Checked_type.TheVariants.Refused r
-      → wrote (Answer_type.TheVariants.Refused r) out ≡ save_call s t out
+  pub save_refused : {r : Refusal} (out : List ℕ) → x ≡ Err r
+      → wrote (Err r) out ≡ save_call s t out
   unfolding save_call save_rules
   save_refused out q = rw (ruling_join_refused (form_rules s t) _ _ (told_refused _ e q))
 
-  pub candidates_refused : {r : Refusal} (out : List ℕ) → x ≡ Checked_type.TheVariants.Refused r
-      → wrote (Answer_type.TheVariants.Refused r) out ≡ candidates_call s t out
+  pub candidates_refused : {r : Refusal} (out : List ℕ) → x ≡ Err r
+      → wrote (Err r) out ≡ candidates_call s t out
   unfolding candidates_call
   candidates_refused out q = rw (ruling_join_refused (form_rules s t) _ _ (told_refused _ e q))
 
-  module _ (q : x ≡ Checked_type.TheVariants.Fine) where
+  module _ (q : x ≡ Ok tt) where
     -- where it does not, no rule refuses,
     form_rules_law : ruling (form_rules s t) ≡ fine
     form_rules_law = told_fine _ e q
 
     -- a buffer too short for the record is refused,
     pub save_short : (n : ℕ) (out : List ℕ) → n ≡ length (record_file (cases s)) → length out < n
-        → wrote (Answer_type.TheVariants.Refused (Short n)) out ≡ save_call s t out
+        → wrote (Err (Short n)) out ≡ save_call s t out
     unfolding save_call save_rules
     save_short n out en l =
         let k : length out < length (record_file (cases s)) = omega arith in
@@ -213,7 +173,7 @@ module _ (s t : List ℕ) {x : Checked_type.Checked} (e : x ≡ checked (ruling 
     -- and one long enough holds it once its head and its cases are written
     pub save_written : (n : ℕ) (out one two : List ℕ) → n ≡ length (record_file (cases s)) → n ≤ length out
         → one ≡ filled out 0 (file_head version (n - rest_at)) → two ≡ filled one rest_at (rest_of (cases s))
-        → wrote (Answer_type.TheVariants.Done n) two ≡ save_call s t out
+        → wrote (Ok n) two ≡ save_call s t out
     unfolding save_call save_rules
     save_written n out one two en l e1 e2 =
         let k : length (record_file (cases s)) ≤ length out = omega arith in
@@ -226,41 +186,46 @@ module _ (s t : List ℕ) {x : Checked_type.Checked} (e : x ≡ checked (ruling 
         )
 
     -- a buffer too short for 256 bytes is refused,
-    pub candidates_short : (out : List ℕ) → length out < cells_most → wrote (Answer_type.TheVariants.Refused (Short 0)) out ≡ candidates_call s t out
+    pub candidates_short : (out : List ℕ) → length out < cells_most → wrote (Err (Short 0)) out ≡ candidates_call s t out
     unfolding candidates_call bytes_rules
     candidates_short out l = rw (last_refuses (form_rules s t) (Short 0) form_rules_law (lt-ltb _ _ l))
 
     -- and one long enough holds the candidates once they are written
     pub candidates_written : (out l : List ℕ) → cells_most ≤ length out → l ≡ candidate_bytes (machine_of s) (cases s) out
-        → wrote (Answer_type.TheVariants.Done 0) l ≡ candidates_call s t out
+        → wrote (Ok 0) l ≡ candidates_call s t out
     unfolding candidates_call bytes_rules
     candidates_written out l room el = rw (last_passes (form_rules s t) (Short 0) form_rules_law (le-ltb _ _ room), el)
 
--- what the check of a place found
-module _ (s t : List ℕ) (p : ℕ) {x : Checked_type.Checked} (e : x ≡ checked (ruling (slot_rules s t p))) where
-  -- where it refuses, so does the conflict set
-  pub conflict_refused : {r : Refusal} (out : List ℕ) → x ≡ Checked_type.TheVariants.Refused r
-      → wrote (Answer_type.TheVariants.Refused r) out ≡ conflict_call s t p out
+-- what the rules for a place say
+module _ (s t : List ℕ) (p : ℕ) where
+  -- where they refuse, so do the symptoms and the conflict set
+  pub symptoms_refused : {r : Refusal} → ruling (slot_rules s t p) ≡ refused r → Err r ≡ symptoms_call s t p
+  unfolding symptoms_call
+  symptoms_refused e = rw e
+
+  pub conflict_refused : {r : Refusal} (out : List ℕ) → ruling (slot_rules s t p) ≡ refused r → wrote (Err r) out ≡ conflict_call s t p out
   unfolding conflict_call
-  conflict_refused out q = rw (ruling_join_refused (slot_rules s t p) _ _ (told_refused _ e q))
+  conflict_refused out e = rw (ruling_join_refused (slot_rules s t p) _ _ e)
 
-  module _ (q : x ≡ Checked_type.TheVariants.Fine) where
-    -- where it does not, no rule refuses,
-    slot_rules_law : ruling (slot_rules s t p) ≡ fine
-    slot_rules_law = told_fine _ e q
-
-    -- a buffer too short for 256 bytes is refused,
-    pub conflict_short : (out : List ℕ) → length out < cells_most → wrote (Answer_type.TheVariants.Refused (Short 0)) out ≡ conflict_call s t p out
+  module _ (f : ruling (slot_rules s t p) ≡ fine) where
+    -- where they do not, a buffer too short for 256 bytes is refused,
+    pub conflict_short : (out : List ℕ) → length out < cells_most → wrote (Err (Short 0)) out ≡ conflict_call s t p out
     unfolding conflict_call bytes_rules
-    conflict_short out l = rw (last_refuses (slot_rules s t p) (Short 0) slot_rules_law (lt-ltb _ _ l))
+    conflict_short out l = rw (last_refuses (slot_rules s t p) (Short 0) f (lt-ltb _ _ l))
 
-    -- and one long enough holds the conflict set once it is written
-    pub conflict_written : {h : Head} {c : Case} (out l : List ℕ) → cells_most ≤ length out → h ≡ head_of s → c ≡ case_of s p
-        → l ≡ conflict_bytes (specified h (cells_of s)) c out → wrote (Answer_type.TheVariants.Done 0) l ≡ conflict_call s t p out
-    unfolding conflict_call bytes_rules
-    conflict_written out l room eh ec el =
-        let k = rw (eh, ec) at el in
-        rw (last_passes (slot_rules s t p) (Short 0) slot_rules_law (le-ltb _ _ room), k)
+    module _ (b : Bench) (e : b ≡ bench_in s p) where
+      -- one long enough holds the conflict set of the place's run once it is written,
+      pub conflict_written : (out l : List ℕ) → cells_most ≤ length out → l ≡ conflict_bytes (specified b.head b.cells) b.case out
+          → wrote (Ok 0) l ≡ conflict_call s t p out
+      unfolding conflict_call bytes_rules
+      conflict_written out l room el =
+          let k = el ∙ ap (λ (x : Bench). conflict_bytes (specified x.head x.cells) x.case out) e in
+          rw (last_passes (slot_rules s t p) (Short 0) f (le-ltb _ _ room), k)
+
+      -- and its symptoms are answered
+      pub symptoms_shown : {x : Symptoms} → x ≡ symptoms_of (specified b.head b.cells) b.case.inputs b.case.outputs → Ok x ≡ symptoms_call s t p
+      unfolding symptoms_call
+      symptoms_shown d = let k = d ∙ ap (λ (x : Bench). symptoms_of (specified x.head x.cells) x.case.inputs x.case.outputs) e in rw (f, k)
 
 -- a cell is in the conflict set of each of some cases that fails
 abbrev stays_in : Machine → List Case → ℕ → Bool
@@ -359,21 +324,3 @@ module _ (h : Head) (cells : List ℕ) (cs : List Case) (out : List ℕ) where
       go : (b : Bool) → cond b 1 0 ≡ bit b
       go true = refl
       go false = refl
-
-module _ (s : List ℕ) (p : ℕ) {here : Place} (e : here ≡ read_place s p) {h : Head} (same : h ≡ head_of s) where
-  -- what is told of the two parts that were read is told of the case: its symptoms
-  pub symptoms_told : {x : Symptoms} → x ≡ symptoms_of (specified h (cells_of s)) (case_read s here).inputs (case_read s here).outputs
-      → x ≡ symptoms_of (machine_of s) (case_of s p).inputs (case_of s p).outputs
-  symptoms_told d = d ∙ rw (same, (parts_read s p e).0, (parts_read s p e).1)
-
-module _ (s t : List ℕ) (p : ℕ) where
-  -- symptoms of a place that is refused are refused so,
-  pub symptoms_refused : {r : Refusal} → checked (ruling (slot_rules s t p)) ≡ Checked_type.TheVariants.Refused r → shows.Refused r ≡ symptoms_call s t p
-  unfolding symptoms_call
-  symptoms_refused e = rw (checked_refused (ruling (slot_rules s t p)) e)
-
-  -- and else they are shown
-  pub symptoms_shown : {x : Symptoms} → checked (ruling (slot_rules s t p)) ≡ Checked_type.TheVariants.Fine
-      → x ≡ symptoms_of (machine_of s) (case_of s p).inputs (case_of s p).outputs → shows.Symptoms x ≡ symptoms_call s t p
-  unfolding symptoms_call
-  symptoms_shown fit d = rw (checked_fine (ruling (slot_rules s t p)) fit, d)

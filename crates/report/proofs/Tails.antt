@@ -5,6 +5,7 @@ use mathlib.Core.Path.{◌≡◌, refl}
 use mathlib.Core.List.{List, ◌++◌}
 use native.Mathlib.Omega.{arith}
 use lib.ListN.{length}
+use Rattle.std.specs.Prelude.{Ok, Err}
 use Rattle.shapes.specs.Edit.{KeptFrom}
 use Rattle.shapes.specs.Refusals.{Ruling, fine, refused, ruling}
 use Rattle.shapes.proofs.Edit.{edit_keeps, filled_keeps}
@@ -12,7 +13,6 @@ use Rattle.machine.specs.Limits.{cells_most}
 use Rattle.house.specs.Refusal.{Written, wrote, written_or}
 use Rattle.house.specs.Cases.{record_file}
 use Rattle.house.specs.declared.refusal.Refusal.{Refusal}
-use Rattle.house.specs.declared.refusal.Answer.TheVariants as answers
 use Rattle.diagnosis.specs.Diagnosis.{conflict_bytes}
 use Rattle.memory.specs.Layout.{cases}
 use Rattle.memory.specs.Form.{slot_rules, form_rules}
@@ -20,8 +20,8 @@ use Rattle.report.specs.Reports.{save_rules, save_call, bytes_rules, conflict_ca
 
 -- the buffer for bytes that a call leaves: after a refusal the whole of it is as it was, else all from byte n on
 abbrev pub WrittenTail : ℕ → List ℕ → Written → Type 0
-WrittenTail n old (wrote (answers.Done m) new) = KeptFrom n old new
-WrittenTail n old (wrote (answers.Refused r) new) = new ≡ old
+WrittenTail n old (wrote (Ok m) new) = KeptFrom n old new
+WrittenTail n old (wrote (Err r) new) = new ≡ old
 
 -- a call that writes bytes leaves the tail that its writing leaves
 pub written_tail : (v : Ruling Refusal) (m n : ℕ) (old new : List ℕ) → KeptFrom n old new → WrittenTail n old (written_or v m old new)

@@ -9,6 +9,7 @@ use native.Mathlib.Nat.{zero-add}
 use native.Mathlib.Omega.{arith}
 use borrow.Author.Tests.{ltb-false, le-ltb}
 use lib.ListN.{length, get_or, take}
+use Rattle.std.specs.Prelude.{Ok}
 use Rattle.shapes.specs.Edit.{filled}
 use Rattle.shapes.specs.Keep.{bit, every}
 use Rattle.shapes.specs.Refusals.{Ruling, fine, refused, ruling}
@@ -23,8 +24,6 @@ use Rattle.machine.proofs.Cases.{case_in}
 use Rattle.house.specs.Refusal.{wrote, written_or}
 use Rattle.house.specs.Cases.{AllRecordable, record_file, record_read, cases_in}
 use Rattle.house.specs.declared.refusal.Refusal.{Refusal}
-use Rattle.house.specs.declared.refusal.Answer.TheVariants as answers
-use Rattle.house.specs.declared.cases.RecordFile.TheVariants.{Record}
 use Rattle.house.proofs.Records.{record_reads_back}
 use Rattle.diagnosis.specs.Diagnosis.{conflict_bytes, is_candidate}
 use Rattle.memory.specs.Layout.{head_of, case_of, cases}
@@ -33,19 +32,17 @@ use Rattle.memory.proofs.Known.{rules_formed, formed_rules}
 use Rattle.memory.proofs.Formed.{cases_good, cases_most_law}
 use Rattle.report.specs.Reports.{save_rules, save_call, bytes_rules, symptoms_call, conflict_call, candidate_bytes, candidates_call}
 use Rattle.reading.specs.Reads.{machine_of}
-use Rattle.report.specs.declared.conflicts.Shown.TheVariants.{Symptoms}
-use Rattle.reading.specs.Reads.{machine_of}
 
 module _ (s t : List ℕ) (k : Formed s t) where
   -- a save the bytes of the record and the record,
   pub save_formed : (out : List ℕ) → length (record_file (cases s)) ≤ length out
-      → save_call s t out ≡ wrote (answers.Done (length (record_file (cases s)))) (filled out 0 (record_file (cases s)))
+      → save_call s t out ≡ wrote (Ok (length (record_file (cases s)))) (filled out 0 (record_file (cases s)))
   unfolding save_call save_rules ruling
   save_formed out room = rw (ruling_join_fine (form_rules s t) _ (formed_rules s t k), le-ltb (length out) (length (record_file (cases s))) room)
 
   -- and the candidates are written
   pub candidates_formed : (out : List ℕ) → cells_most ≤ length out
-      → candidates_call s t out ≡ wrote (answers.Done 0) (candidate_bytes (machine_of s) (cases s) out)
+      → candidates_call s t out ≡ wrote (Ok 0) (candidate_bytes (machine_of s) (cases s) out)
   unfolding candidates_call bytes_rules ruling
   candidates_formed out room = rw (ruling_join_fine (form_rules s t) _ (formed_rules s t k), le-ltb (length out) cells_most room)
 
@@ -56,18 +53,18 @@ module _ (s t : List ℕ) (k : Formed s t) where
     slot_fine = rw (ruling_join_fine (form_rules s t) _ (formed_rules s t k), slot)
 
     -- its symptoms are answered,
-    pub symptoms_formed : symptoms_call s t p ≡ Symptoms (symptoms_of (machine_of s) (case_of s p).inputs (case_of s p).outputs)
+    pub symptoms_formed : symptoms_call s t p ≡ Ok (symptoms_of (machine_of s) (case_of s p).inputs (case_of s p).outputs)
     unfolding symptoms_call
     symptoms_formed = rw slot_fine
 
     -- and its conflict set is written
     pub conflict_formed : (out : List ℕ) → cells_most ≤ length out
-        → conflict_call s t p out ≡ wrote (answers.Done 0) (conflict_bytes (machine_of s) (case_of s p) out)
+        → conflict_call s t p out ≡ wrote (Ok 0) (conflict_bytes (machine_of s) (case_of s p) out)
     unfolding conflict_call bytes_rules ruling
     conflict_formed out room = rw (ruling_join_fine (slot_rules s t p) _ slot_fine, le-ltb (length out) cells_most room)
 
 -- a buffer that was written was let pass: so much was answered, and the new list is left
-pub written_done : (v : Ruling Refusal) (n m : ℕ) (old new left : List ℕ) → written_or v n old new ≡ wrote (answers.Done m) left
+pub written_done : (v : Ruling Refusal) (n m : ℕ) (old new left : List ℕ) → written_or v n old new ≡ wrote (Ok m) left
     → (v ≡ fine) × ((n ≡ m) × (new ≡ left))
 written_done fine n m old new left e = (refl, (cc, cc))
 written_done (refused r) n m old new left e = (cc, (cc, cc))
@@ -82,8 +79,8 @@ good_recordable h (c ∷ cs) e =
     (record { some_steps = k.some_steps; few_steps = k.few_steps; even = k.even }, good_recordable h cs g.1)
 
 -- what a save answers and leaves reads back as the cases held, in order
-pub save_reads_back : (s t out : List ℕ) (n : ℕ) (left : List ℕ) → save_call s t out ≡ wrote (answers.Done n) left
-    → (record_read (take n left) ≡ Record (length (cases s))) × (cases_in (take n left) ≡ cases s)
+pub save_reads_back : (s t out : List ℕ) (n : ℕ) (left : List ℕ) → save_call s t out ≡ wrote (Ok n) left
+    → (record_read (take n left) ≡ Ok (length (cases s))) × (cases_in (take n left) ≡ cases s)
 unfolding save_call save_rules
 save_reads_back s t out n left e =
     let d = written_done (ruling (save_rules s t out)) _ n out _ left e in
@@ -94,14 +91,14 @@ save_reads_back s t out n left e =
     rw file (record_reads_back (cases s) (cases_most_law s) (good_recordable (head_of s) (cases s) (cases_good s t k)))
 
 -- candidates are written of a well-formed session,
-pub candidates_done : (s t out : List ℕ) (n : ℕ) (left : List ℕ) → candidates_call s t out ≡ wrote (answers.Done n) left → Formed s t
+pub candidates_done : (s t out : List ℕ) (n : ℕ) (left : List ℕ) → candidates_call s t out ≡ wrote (Ok n) left → Formed s t
 unfolding candidates_call
 candidates_done s t out n left e =
     let d = written_done (ruling (form_rules s t ++ bytes_rules out)) _ n out _ left e in
     rules_formed s t (ruling_joined (form_rules s t) _ d.0).0
 
 -- and the byte left at a cell is 1 where it is one, else 0
-pub candidates_byte : (s t out : List ℕ) (n : ℕ) (left : List ℕ) → candidates_call s t out ≡ wrote (answers.Done n) left
+pub candidates_byte : (s t out : List ℕ) (n : ℕ) (left : List ℕ) → candidates_call s t out ≡ wrote (Ok n) left
     → (cell : ℕ) → cell < cells_most → get_or left cell 0 ≡ bit (is_candidate (machine_of s) (cases s) cell)
 unfolding candidates_call candidate_bytes bytes_rules
 candidates_byte s t out n left e cell l =

@@ -1,23 +1,22 @@
 -- What a session shows of its cases (document 01, "Symptoms, conflict sets, verdict", "Session memory"): a record of them, the symptoms and the conflict set
 -- of a place, the candidates. Each call is its rules in the paper's order, an output buffer's SHORT last, and what it answers and writes where
 -- none refuses.
-use Rattle.std.specs.Prelude.{ℕ, List, [], ◌∷◌, ◌++◌, ltb, length}
+use Rattle.std.specs.Prelude.{ℕ, List, [], ◌∷◌, ◌++◌, ltb, length, Result}
 use Rattle.shapes.specs.Edit.{edit, filled}
 use Rattle.shapes.specs.Keep.{bit}
-use Rattle.shapes.specs.Refusals.{Rule, when, Ruling, fine, refused, ruling}
+use Rattle.shapes.specs.Refusals.{Rule, when, ruling}
 use Rattle.machine.specs.Limits.{cells_most}
 use Rattle.machine.specs.Machine.{Machine}
 use Rattle.machine.specs.Run.{symptoms_of}
 use Rattle.machine.specs.Case.{Case}
 use Rattle.machine.specs.declared.replay.Symptoms.{Symptoms}
-use Rattle.house.specs.Refusal.{Written, written_or}
+use Rattle.house.specs.Refusal.{Written, written_or, ruled}
 use Rattle.house.specs.Cases.{record_file}
 use Rattle.house.specs.declared.refusal.Refusal.{Refusal}
 use Rattle.house.specs.declared.refusal.Refusal.TheVariants.{Short}
 use Rattle.diagnosis.specs.Diagnosis.{conflict_bytes, is_candidate}
 use Rattle.memory.specs.Layout.{case_of, cases}
 use Rattle.memory.specs.Form.{form_rules, slot_rules}
-use Rattle.report.specs.declared.conflicts.Shown as Shown_type
 use Rattle.reading.specs.Reads.{machine_of}
 
 -- "Save writes the held cases by rising place", as a record
@@ -28,12 +27,8 @@ unfoldable pub save_call : List ℕ → List ℕ → List ℕ → Written
 save_call s t out = written_or (ruling (save_rules s t out)) (length (record_file (cases s))) out (filled out 0 (record_file (cases s)))
 
 -- "For a place, the answer is the count of differing steps and the first of them (64 if there is none)."
-abbrev pub shown_or : Ruling Refusal → Symptoms → Shown_type.Shown
-shown_or fine x = Shown_type.TheVariants.Symptoms x
-shown_or (refused r) x = Shown_type.TheVariants.Refused r
-
-unfoldable pub symptoms_call : List ℕ → List ℕ → ℕ → Shown_type.Shown
-symptoms_call s t p = shown_or (ruling (slot_rules s t p)) (symptoms_of (machine_of s) (case_of s p).inputs (case_of s p).outputs)
+unfoldable pub symptoms_call : List ℕ → List ℕ → ℕ → Result Symptoms Refusal
+symptoms_call s t p = ruled (ruling (slot_rules s t p)) (symptoms_of (machine_of s) (case_of s p).inputs (case_of s p).outputs)
 
 -- conflict sets and candidates are 256 bytes, whatever the table's size
 unfoldable pub bytes_rules : List ℕ → List (Rule Refusal)

@@ -1,36 +1,24 @@
 -- The walk along a record meets its cases one after the other: at the place of a position stands the case at that position, after as many
 -- bytes as the record of the cases before it has. By induction on the position.
 -- Assumes nothing.
-use Prim.Native.Nat.{ℕ, zero, suc, ◌+◌, ◌-◌, ◌*◌, ◌≤◌, ◌<◌}
+use Prim.Native.Nat.{ℕ, zero, suc, ◌+◌, ◌-◌, ◌≤◌, ◌<◌}
 use mathlib.Core.Path.{◌≡◌, sym, ap, ◌∙◌}
-use mathlib.Core.Bool.{true}
 use mathlib.Core.List.{List, [], ◌∷◌, ◌++◌, append-nil}
 use native.Mathlib.Nat.{add-zero, sub-zero}
 use native.Mathlib.Numerals.{add-one}
 use native.Mathlib.Omega.{arith}
-use lib.ListN.{length, get_or, take, drop, length-append, length-drop}
-use lib.Seq.{take-suc, take_at, get_or-drop, drop-drop}
+use lib.ListN.{length, get_or, take, drop, length-append}
+use lib.Seq.{take-suc, get_or-drop, drop-drop}
 use Rattle.shapes.specs.Refusals.{ruling, fine}
 use Rattle.machine.specs.Case.{Case, no_case}
 use Rattle.house.specs.File.{rest_at}
-use Rattle.house.specs.Cases.{case_bytes, rest_of, steps_at, case_fits, case_at, cases_from, cases_in, count_in, count_of, record_rules}
+use Rattle.house.specs.Cases.{case_bytes, rest_of, case_at, cases_from, cases_in, count_in, count_of, record_rules}
 use Rattle.house.specs.Walk.{place_of}
 use Rattle.retest.specs.Retest.{at_position, place_in}
-use Rattle.house.proofs.Records.{case_fits_law, case_there, cases_counted, record_size, rest_append}
+use Rattle.house.proofs.Records.{cases_counted, record_size, rest_append}
 use Rattle.house.proofs.Places.{place_fits}
 use Rattle.house.proofs.Against.{next_case}
-
-module _ (file : List ℕ) (at : ℕ) (fits : case_fits file at ≡ true) where
-  -- a case that fits has as many bytes as the place after it is away
-  case_size : length (case_bytes (case_at file at)) ≡ 1 + 2 * steps_at file at
-  case_size =
-      let e = simp (length-append, length-drop) at (ap length (case_there file at fits)) in
-      let f = case_fits_law file at fits in
-      omega arith
-
-  -- and they are those that stand there
-  pub case_stands : take (1 + 2 * steps_at file at) (drop at file) ≡ case_bytes (case_at file at)
-  case_stands = rw (← case_there file at fits) (take_at _ _ _ case_size)
+use Rattle.house.proofs.Left.{case_size}
 
 -- from the place of a position on stand the cases from that position on
 cases_stand_from : (file : List ℕ) (n i : ℕ) → i ≤ n → drop i (cases_from file n rest_at) ≡ cases_from file (n - i) (place_of file i)

@@ -1,46 +1,38 @@
 -- What a retest answers, from what its rules say: empty exactly on refusal, else the first retest case with the same inputs or the first
--- record's own, and the number of the first refusal. Before that, how one loop compares the inputs of two cases and another finds that case.
+-- record's own, and the number of the first refusal. Before that, what the code's search among the parts of a record finds.
 -- Assumes nothing.
-use Prim.Native.Nat.{ℕ, suc, ◌+◌, ◌*◌, ◌-◌, ◌≤◌, ◌<◌}
+use Prim.Native.Nat.{ℕ, zero, suc, ◌+◌, ◌≤◌, ◌<◌}
 use mathlib.Core.Path.{◌≡◌, refl, sym, ap, ◌∙◌}
 use mathlib.Core.Bool.{Bool, true, false, cond, ◌&&◌, ◌||◌}
-use mathlib.Core.Logic.{◌↔◌}
+use mathlib.Core.Logic.{◌↔◌, ◌⊎◌, inl, inr}
 use mathlib.Core.List.{List, [], ◌∷◌, ◌++◌}
-use borrow.Author.Tests.{eq-eqb, ne_eqb, eqb-true, le-leb, lt-leb, leb-false}
-use native.Mathlib.Nat.{zero-add, add-zero, sub-zero}
-use native.Mathlib.Numerals.{add-one}
+use borrow.Author.Tests.{eq-eqb, eqb-true, le-leb, lt-leb, leb-false}
+use native.Mathlib.Nat.{zero-add, add-zero}
 use native.Mathlib.Omega.{arith}
 use lib.Dec.{eqb, leb}
-use lib.ListN.{length, get_or, take, drop, length-drop, drop_of_length-le}
-use lib.Seq.{length-take-le, drop-cons, get_or-take, get_or-drop}
+use lib.ListN.{length, get_or}
+use Rattle.std.specs.Prelude.{Option, Some, None, Result, Ok, Err}
+use Rattle.std.specs.Option.{option_map, unwrap_or, ok_or}
+use Rattle.std.specs.List.{find, slice_get}
+use Rattle.std.specs.Cmp.Lexicographic.{pointwise}
+use Rattle.std.proofs.lemmas.Bool.{cases_lt}
 use Rattle.shapes.specs.Keep.{some}
 use Rattle.shapes.specs.Refusals.{when, Ruling, ruling, fine, refused}
 use Rattle.shapes.proofs.Tests.{and_true, or_false}
 use Rattle.shapes.proofs.Refusals.{fine_when, ruling_here, ruling_past, ruling_end, ruling_join_refused, ruling_join_fine, ruling_joined}
 use Rattle.machine.specs.Case.{Case, no_case}
-use Rattle.house.specs.Refusal.{number_of}
-use Rattle.house.specs.File.{rest_at}
-use Rattle.house.specs.Cases.{case_bytes, case_end, case_fits, case_at, cases_from, cases_in, count_in, count_of, record_rules}
+use Rattle.house.specs.Refusal.{number_of, ruled}
+use Rattle.house.specs.Cases.{case_bytes, case_end, case_at, cases_from, cases_in, count_in, count_of, record_rules}
 use Rattle.house.specs.Walk.{place_of}
-use Rattle.retest.specs.Retest.{same, same_inputs, retest_of, match_of, at_position, place_in, further, picked_at, retest_rules, retested, retested_at, retest_number}
+use Rattle.house.specs.Left.{Part, lent_part, part_at, parts_from, parts_in}
+use Rattle.house.specs.declared.record.Case as Case_lent
 use Rattle.house.specs.declared.refusal.Refusal.{Refusal}
 use Rattle.house.specs.declared.refusal.Refusal.TheVariants.{Slot}
+use Rattle.house.proofs.Forms.{ruled_refused, ruled_passed}
 use Rattle.house.proofs.Records.{cases_counted}
-use Rattle.house.proofs.Places.{place_next, place_fits, place_ends, place_inside, place_past}
-use Rattle.house.proofs.Against.{next_case}
-use Rattle.retest.proofs.Positions.{case_stands, case_positioned, place_in_law}
-
--- lists of other lengths are not the same
-same_other : (xs ys : List ℕ) → (length xs ≡ length ys → ⊥) → same xs ys ≡ false
-unfolding same
-same_other [] [] n = absurd (n refl)
-same_other [] (y ∷ ys) n = refl
-same_other (x ∷ xs) [] n = refl
-same_other (x ∷ xs) (y ∷ ys) n = go (eqb x y) (same_other xs ys (λ e. n (ap suc e)))
-  where
-    go : (t : Bool) → same xs ys ≡ false → (t && same xs ys) ≡ false
-    go true e = e
-    go false e = refl
+use Rattle.retest.specs.Retest.{same, same_inputs, retest_of, match_of, at_position, place_in, further, picked_at, retest_rules, retested, retested_at, retest_number}
+use Rattle.retest.specs.Picked.{as_part, is_again, picked_part}
+use Rattle.retest.proofs.Positions.{case_positioned, place_in_law}
 
 -- a list is the same as itself
 same_self : (xs : List ℕ) → same xs xs ≡ true
@@ -61,154 +53,26 @@ pub same_inputs_law : (c d : Case) → (same_inputs c d ≡ true) ↔ (c.inputs 
 unfolding same_inputs
 same_inputs_law c d = (λ e. same_equal _ _ e, λ e. rw e (same_self d.inputs))
 
--- a place where a whole case stands
-module _ (file : List ℕ) (at : ℕ) (ends : case_end file at ≤ length file) where
-  -- it has as many inputs as its length byte says
-  inputs_many : length (case_at file at).inputs ≡ get_or file at 0
-  unfolding case_at
-  inputs_many = length-take-le _ _ (rw length-drop (omega arith))
-
-  -- each of them is the byte that stands there
-  inputs_next : (i : ℕ) → i < get_or file at 0 → drop i (case_at file at).inputs ≡ get_or file (at + 1 + i) 0 ∷ drop (i + 1) (case_at file at).inputs
-  unfolding case_at
-  inputs_next i h =
-      rw (add-one i, ← get_or-drop (at + 1) file i 0, ← get_or-take (get_or file at 0) (drop (at + 1) file) i 0 h)
-      (drop-cons _ i 0 (rw inputs_many h))
-
-  -- and no more
-  inputs_end : (i : ℕ) → get_or file at 0 ≤ i → drop i (case_at file at).inputs ≡ []
-  inputs_end i h = drop_of_length-le _ {i = i} (rw inputs_many h)
-
--- a comparison of the inputs of two cases has come to step i: they have as many steps, and what is left to compare decides
-pub record Comparing (a : List ℕ) (p : ℕ) (b : List ℕ) (q steps i : ℕ) : Type 0 where
-  pub few : i ≤ steps
-  pub ours : steps ≡ get_or a p 0
-  pub theirs : steps ≡ get_or b q 0
-  pub rest : same (drop i (case_at a p).inputs) (drop i (case_at b q).inputs) ≡ same_inputs (case_at a p) (case_at b q)
-
-module _ (a : List ℕ) (p : ℕ) (b : List ℕ) (q : ℕ) (one : case_end a p ≤ length a) (two : case_end b q ≤ length b) where
-  -- cases of other lengths have other inputs
-  pub other_steps : (x y : ℕ) → x ≡ get_or a p 0 → y ≡ get_or b q 0 → (y ≡ x → ⊥) → false ≡ same_inputs (case_at a p) (case_at b q)
-  unfolding same_inputs
-  other_steps x y d e n =
-      let m = inputs_many a p one in
-      let k = inputs_many b q two in
-      sym (same_other _ _ (λ s. n (omega arith)))
-
-  module _ (steps : ℕ) where
-    -- it begins at the first step
-    pub compare_begins : (y : ℕ) → steps ≡ get_or a p 0 → y ≡ get_or b q 0 → y ≡ steps → Comparing a p b q steps 0
-    unfolding same_inputs
-    compare_begins y d e s = record { few = omega arith; ours = d; theirs = cc; rest = refl }
-
-    module _ (i : ℕ) (s : Comparing a p b q steps i) where
-      -- at each step the inputs there and those after them decide
-      compare_turn : i < steps
-          → (eqb (get_or a (p + 1 + i) 0) (get_or b (q + 1 + i) 0) && same (drop (i + 1) (case_at a p).inputs) (drop (i + 1) (case_at b q).inputs))
-          ≡ same_inputs (case_at a p) (case_at b q)
-      unfolding same
-      compare_turn h = rw (inputs_next a p one i (rw (← s.ours) h), inputs_next b q two i (rw (← s.theirs) h)) at s.rest
-
-      -- a step with another input ends it
-      pub compare_fails : i < steps → (get_or a (p + 1 + i) 0 ≡ get_or b (q + 1 + i) 0 → ⊥) → false ≡ same_inputs (case_at a p) (case_at b q)
-      compare_fails h n = rw (ne_eqb _ _ n) at (compare_turn h)
-
-      -- one with the same is passed
-      pub compare_goes_on : i < steps → get_or a (p + 1 + i) 0 ≡ get_or b (q + 1 + i) 0 → Comparing a p b q steps (i + 1)
-      compare_goes_on h e =
-          record { few = omega arith; ours = s.ours; theirs = s.theirs; rest = rw (eq-eqb _ _ e) at (compare_turn h) }
-
-      -- at the end all are the same
-      pub compare_ends : steps ≤ i → true ≡ same_inputs (case_at a p) (case_at b q)
-      unfolding same
-      compare_ends h = rw (inputs_end a p one i (rw (← s.ours) h), inputs_end b q two i (rw (← s.theirs) h)) at s.rest
-
--- a search among the cases of a record for the inputs of a case has come to this place: that of a position, and no earlier case has them
-pub record Searching (c : Case) (b : List ℕ) (at : ℕ) : Type 0 where
-  pub position : ℕ
-  pub few : position ≤ count_of (count_in b)
-  pub here : at ≡ place_of b position
-  pub rest : position + match_of c (cases_from b (count_of (count_in b) - position) at) ≡ match_of c (cases_in b)
-
-module _ (c : Case) (b : List ℕ) where
-  -- it begins at the first place
-  pub search_begins : Searching c b rest_at
-  unfolding place_of cases_in
-  search_begins = record { position = 0; few = omega arith; here = refl; rest = rw (sub-zero, zero-add) }
-
-  module _ (at : ℕ) (s : Searching c b at) (ok : ruling (record_rules b) ≡ fine) where
-    -- short of the end a case stands there
-    search_inside : at < length b → s.position < count_of (count_in b)
-    search_inside h = place_inside b ok s.position s.few (rw s.here at h)
-
-    -- and it ends within the file
-    pub search_fits : at < length b → case_end b at ≤ length b
-    search_fits h = rw s.here (place_ends b ok s.position (search_inside h))
-
-    -- one that has the inputs is the one looked for
-    pub search_finds : at < length b → same_inputs c (case_at b at) ≡ true → at ≡ place_of b (match_of c (cases_in b))
-    unfolding match_of
-    search_finds h e =
-        let m = rw (next_case b _ _ at (search_inside h), e, add-zero) at s.rest in
-        s.here ∙ ap (place_of b) m
-
-    -- one that has not is passed
-    pub search_goes_on : at < length b → same_inputs c (case_at b at) ≡ false → Searching c b (case_end b at)
-    unfolding match_of
-    search_goes_on h e =
-        let m = rw (next_case b _ _ at (search_inside h), e) at s.rest in
-        record {
-          position = s.position + 1;
-          few = let l = search_inside h in omega arith;
-          here = place_next b s.position at _ s.here refl;
-          rest = sym (turn s.position _) ∙ m;
-        }
-      where
-        turn : (n m : ℕ) → n + suc m ≡ n + 1 + m
-        turn n m = omega arith
-
-    -- at the end there is none
-    pub search_ends : length b ≤ at → at ≡ place_of b (match_of c (cases_in b))
-    unfolding match_of cases_from
-    search_ends h =
-        let l = place_past b ok s.position s.few (rw s.here at h) in
-        let d : count_of (count_in b) - s.position ≡ 0 = omega arith in
-        s.here ∙ ap (place_of b) (rw (d, add-zero) at s.rest)
+-- and `==` of two slices tells whether they are
+pub same_slices : (xs ys : List ℕ) → pointwise eqb xs ys ≡ same xs ys
+unfolding same
+same_slices [] [] = refl
+same_slices [] (y ∷ ys) = refl
+same_slices (x ∷ xs) [] = refl
+same_slices (x ∷ xs) (y ∷ ys) = ap (λ t. eqb x y && t) (same_slices xs ys)
 
 module _ (c : Case) where
-  -- no more cases come before the first with the inputs of a case than there are
-  match_high : (ds : List Case) → match_of c ds ≤ length ds
-  unfolding match_of
-  match_high [] = omega arith
-  match_high (d ∷ ds) = go (same_inputs c d) (match_high ds)
-    where
-      go : (t : Bool) → match_of c ds ≤ length ds → cond t 0 (suc (match_of c ds)) ≤ suc (length ds)
-      go true h = omega arith
-      go false h = omega arith
-
-  -- where fewer come before it there is one
-  match_some : (ds : List Case) → match_of c ds < length ds → (some (same_inputs c) ds ≡ true) × (retest_of c ds ≡ at_position ds (match_of c ds))
+  -- where some case has the inputs of a case, the first of them is one of the cases, and the one picked
+  match_some : (ds : List Case) → some (same_inputs c) ds ≡ true → (match_of c ds < length ds) × (retest_of c ds ≡ at_position ds (match_of c ds))
   unfolding match_of retest_of some at_position
-  match_some [] h = absurd (omega arith)
-  match_some (d ∷ ds) h = go (same_inputs c d) (match_some ds) h
+  match_some [] e = cc
+  match_some (d ∷ ds) e = go (same_inputs c d) (match_some ds) e
     where
-      go : (t : Bool)
-          → (match_of c ds < length ds → (some (same_inputs c) ds ≡ true) × (retest_of c ds ≡ get_or ds (match_of c ds) no_case))
-          → cond t 0 (suc (match_of c ds)) < suc (length ds)
-          → ((t || some (same_inputs c) ds) ≡ true) × (cond t d (retest_of c ds) ≡ get_or (d ∷ ds) (cond t 0 (suc (match_of c ds))) no_case)
-      go true rest h = (refl, refl)
-      go false rest h = rest (omega arith)
-
-  -- where all do there is none
-  match_none : (ds : List Case) → match_of c ds ≡ length ds → (some (same_inputs c) ds ≡ false) × (retest_of c ds ≡ c)
-  unfolding match_of retest_of some
-  match_none [] h = (refl, refl)
-  match_none (d ∷ ds) h = go (same_inputs c d) (match_none ds) h
-    where
-      go : (t : Bool) → (match_of c ds ≡ length ds → (some (same_inputs c) ds ≡ false) × (retest_of c ds ≡ c)) → cond t 0 (suc (match_of c ds)) ≡ suc (length ds)
-          → ((t || some (same_inputs c) ds) ≡ false) × (cond t d (retest_of c ds) ≡ c)
-      go true rest h = absurd (omega arith)
-      go false rest h = rest (omega arith)
+      go : (t : Bool) → (some (same_inputs c) ds ≡ true → (match_of c ds < length ds) × (retest_of c ds ≡ get_or ds (match_of c ds) no_case))
+          → (t || some (same_inputs c) ds) ≡ true
+          → (cond t 0 (suc (match_of c ds)) < suc (length ds)) × (cond t d (retest_of c ds) ≡ get_or (d ∷ ds) (cond t 0 (suc (match_of c ds))) no_case)
+      go true rest e = (omega arith, refl)
+      go false rest e = let r = rest e in (omega arith, r.1)
 
   -- the case picked is the first of the retest's with the same inputs
   pub retest_first : (before : List Case) (d : Case) (after : List Case) → some (same_inputs c) before ≡ false → c.inputs ≡ d.inputs
@@ -223,10 +87,81 @@ module _ (c : Case) where
   retest_own [] n = refl
   retest_own (d ∷ ds) n = let f = or_false (same_inputs c d) (some (same_inputs c) ds) n in rw f.0 (retest_own ds f.1)
 
--- the bytes of a case, as the code takes them
-part_case : (file : List ℕ) (at x : ℕ) → case_fits file at ≡ true → x ≡ get_or file at 0
-    → take (at + 1 + 2 * x - at) (drop at file) ≡ case_bytes (case_at file at)
-part_case file at x h e = let d : at + 1 + 2 * x - at ≡ 1 + 2 * x = omega arith in rw (d, e) (case_stands file at h)
+module _ (p : ℕ × ℕ) (file : List ℕ) where
+  -- the part at an index, of those from the place of a position on, where there are so many
+  part_got : (n i k : ℕ) → k < n → slice_get (parts_from p file n (place_of file i)) k ≡ Some (part_at p file (place_of file (i + k)))
+  unfolding parts_from place_of
+  part_got zero i k h = absurd (omega arith)
+  part_got (suc n) i zero h = rw add-zero
+  part_got (suc n) i (suc k) h = let e : i + suc k ≡ suc i + k = omega arith in part_got n (suc i) k (omega arith) ∙ rw e
+
+  -- and where there are not
+  part_lacks : (n at k : ℕ) → n ≤ k → slice_get (parts_from p file n at) k ≡ None
+  unfolding parts_from
+  part_lacks zero at k h = refl
+  part_lacks (suc n) at zero h = absurd (omega arith)
+  part_lacks (suc n) at (suc k) h = part_lacks n (case_end file at) k (omega arith)
+
+  -- the first part with the inputs of a case, where there is one
+  part_found : (c : Case) (t : Part) (n i : ℕ)
+      → unwrap_or (find (is_again c) (parts_from p file n (place_of file i))) t
+      ≡ cond (some (same_inputs c) (cases_from file n (place_of file i))) (part_at p file (place_of file (i + match_of c (cases_from file n (place_of file i))))) t
+  unfolding parts_from cases_from place_of some match_of
+  part_found c t zero i = refl
+  part_found c t (suc n) i = go (same_inputs c (case_at file (place_of file i))) (part_found c t n (suc i))
+    where
+      cs : List Case
+      cs = cases_from file n (case_end file (place_of file i))
+
+      go : (b : Bool)
+          → unwrap_or (find (is_again c) (parts_from p file n (case_end file (place_of file i)))) t
+          ≡ cond (some (same_inputs c) cs) (part_at p file (place_of file (suc i + match_of c cs))) t
+          → unwrap_or (cond b (Some (part_at p file (place_of file i))) (find (is_again c) (parts_from p file n (case_end file (place_of file i))))) t
+          ≡ cond (b || some (same_inputs c) cs) (part_at p file (place_of file (i + cond b 0 (suc (match_of c cs))))) t
+      go true rest = rw add-zero
+      go false rest = let e : i + suc (match_of c cs) ≡ suc i + match_of c cs = omega arith in rest ∙ rw e
+
+-- what the code's search gives, else the first record's own, seen as parts
+pub picked_told : (s t : ℕ × ℕ) (a b : List ℕ) (position : ℕ) (o : Option Case_lent.Case) (k z : Case_lent.Case)
+    → option_map lent_part o ≡ find (is_again (lent_part k).case) (parts_in t b) → lent_part k ≡ part_at s a (place_of a position) → z ≡ unwrap_or o k
+    → lent_part z ≡ picked_part s t a b position
+picked_told s t a b position o k z eo ek ez =
+    ap lent_part ez ∙ lent o ∙ ap (λ r. unwrap_or r (lent_part k)) eo ∙ ap (λ (u : Part). unwrap_or (find (is_again u.case) (parts_in t b)) u) ek
+  where
+    lent : (o : Option Case_lent.Case) → lent_part (unwrap_or o k) ≡ unwrap_or (option_map lent_part o) (lent_part k)
+    lent (Some x) = refl
+    lent None = refl
+
+-- the case at a position of a record, as the code takes it
+module _ (p : ℕ × ℕ) (file : List ℕ) (position : ℕ) (o : Option Case_lent.Case) (eo : option_map lent_part o ≡ slice_get (parts_in p file) position)
+    (x : Result Case_lent.Case Refusal) (ex : x ≡ ok_or o Slot) where
+  -- SLOT where there is none
+  pub own_missing : (r : Refusal) → x ≡ Err r → (r ≡ Slot) × (count_of (count_in file) ≤ position)
+  unfolding parts_in place_of
+  own_missing r e = go o (cases_lt position (count_of (count_in file))) (sym ex ∙ e) eo
+    where
+      go : (o : Option Case_lent.Case) → (position < count_of (count_in file)) ⊎ (count_of (count_in file) ≤ position) → ok_or o Slot ≡ Err r
+          → option_map lent_part o ≡ slice_get (parts_from p file (count_of (count_in file)) (place_of file 0)) position
+          → (r ≡ Slot) × (count_of (count_in file) ≤ position)
+      go (Some k) h er eg = cc
+      go None (inl h) er eg = let n = eg ∙ part_got p file _ 0 position h in cc
+      go None (inr h) er eg = (cc, h)
+
+  -- else the part at its place
+  pub own_there : (k : Case_lent.Case) → x ≡ Ok k → (position < count_of (count_in file)) × (lent_part k ≡ part_at p file (place_of file position))
+  unfolding parts_in place_of
+  own_there k e = go o (cases_lt position (count_of (count_in file))) (sym ex ∙ e) eo
+    where
+      go : (o : Option Case_lent.Case) → (position < count_of (count_in file)) ⊎ (count_of (count_in file) ≤ position) → ok_or o Slot ≡ Ok k
+          → option_map lent_part o ≡ slice_get (parts_from p file (count_of (count_in file)) (place_of file 0)) position
+          → (position < count_of (count_in file)) × (lent_part k ≡ part_at p file (place_of file position))
+      go None h er eg = cc
+      go (Some w) (inl h) er eg =
+          let same : w ≡ k = cc in
+          let n : Some (lent_part w) ≡ Some (part_at p file (place_of file position)) = eg ∙ part_got p file _ 0 position h ∙ rw zero-add in
+          let at : lent_part w ≡ part_at p file (place_of file position) = cc in
+          (h, ap lent_part (sym same) ∙ at)
+      go (Some w) (inr h) er eg = let n = eg ∙ part_lacks p file _ _ position h in cc
 
 module _ (a b : List ℕ) (position : ℕ) where
   -- the first record's refusal comes first
@@ -265,9 +200,9 @@ module _ (a b : List ℕ) (position : ℕ) where
 
   -- on refusal the part handed back is empty, and begins where the first record does
   pub picks_none : (s t : ℕ × ℕ) {r : Refusal} → ruling (retest_rules a b position) ≡ refused r
-      → ([] ≡ retested a b position) × (further 0 s ≡ retested_at s t a b position)
+      → ([] ≡ retested a b position) × (s ≡ retested_at s t a b position)
   unfolding retested retested_at
-  picks_none s t e = rw e (refl, rw zero-add)
+  picks_none s t e = rw e (refl, refl)
 
   -- the case at the position
   abbrev own : Case
@@ -275,45 +210,31 @@ module _ (a b : List ℕ) (position : ℕ) where
 
   module _ (ok : ruling (retest_rules a b position) ≡ fine) where
     -- it is the one that stands at its place
-    own_case : (p : ℕ) → p ≡ place_of a position → case_at a p ≡ own
-    own_case p d = ap (case_at a) d ∙ case_positioned a position (rules_known ok).2
+    own_case : case_at a (place_of a position) ≡ own
+    own_case = case_positioned a position (rules_known ok).2
 
-    -- the place looked for is that of the first retest case with its inputs
-    match_own : (p q : ℕ) → p ≡ place_of a position → q ≡ place_of b (match_of (case_at a p) (cases_in b)) → q ≡ place_of b (match_of own (cases_in b))
-    match_own p q d e = rw (own_case p d) at e
+    -- the first part of the retest with its inputs, where there is one, is that of the case picked, and begins where that one does
+    module _ (s t : ℕ × ℕ) where
+      picked_law : picked_part s t a b position
+          ≡ cond (some (same_inputs own) (cases_in b)) (part_at t b (place_of b (match_of own (cases_in b)))) (part_at s a (place_of a position))
+      unfolding parts_in cases_in place_of
+      picked_law = part_found t b (case_at a (place_of a position)) (part_at s a (place_of a position)) _ 0 ∙ rw (own_case, zero-add)
 
-    -- a place in the retest is that of one of its cases
-    match_inside : (c : Case) (q : ℕ) → q ≡ place_of b (match_of c (cases_in b)) → q < length b → match_of c (cases_in b) < count_of (count_in b)
-    match_inside c q e h =
-        place_inside b (rules_known ok).1 (match_of c (cases_in b)) (rw (← cases_counted b) (match_high c (cases_in b))) (rw e at h)
-
-    -- and that case ends within the file
-    pub match_ends : (p q : ℕ) → q ≡ place_of b (match_of (case_at a p) (cases_in b)) → q < length b → case_end b q ≤ length b
-    match_ends p q e h = rw e (place_ends b (rules_known ok).1 _ (match_inside (case_at a p) q e h))
-
-    -- there the retest's case is picked
-    pub picks_again : (s t : ℕ × ℕ) (p q x : ℕ) → p ≡ place_of a position → q ≡ place_of b (match_of (case_at a p) (cases_in b)) → q < length b
-        → x ≡ get_or b q 0 → (take (q + 1 + 2 * x - q) (drop q b) ≡ retested a b position) × (further q t ≡ retested_at s t a b position)
-    unfolding retested retested_at picked_at
-    picks_again s t p q x d e h f =
-        let g = match_own p q d e in
-        let l = match_inside own q g h in
-        let m = match_some own (cases_in b) (rw (cases_counted b) l) in
-        let r : retest_of own (cases_in b) ≡ case_at b q = m.1 ∙ sym (case_positioned b _ l) ∙ ap (case_at b) (sym g) in
-        let i : q ≡ place_in (cases_in b) (match_of own (cases_in b)) = g ∙ place_in_law b (rules_known ok).1 _ (omega arith) in
-        (rw (ok, r) (part_case b q x (rw g (place_fits b (rules_known ok).1 _ l)) f), rw (ok, m.0, ← i) refl)
-
-    -- past the retest's end the first record's own
-    pub picks_own : (s t : ℕ × ℕ) (p q x : ℕ) → p ≡ place_of a position → q ≡ place_of b (match_of (case_at a p) (cases_in b)) → length b ≤ q
-        → x ≡ get_or a p 0 → (take (p + 1 + 2 * x - p) (drop p a) ≡ retested a b position) × (further p s ≡ retested_at s t a b position)
-    unfolding retested retested_at picked_at
-    picks_own s t p q x d e h f =
-        let g = match_own p q d e in
-        let l = place_past b (rules_known ok).1 (match_of own (cases_in b)) (rw (← cases_counted b) (match_high own (cases_in b))) (rw g at h) in
-        let m = match_none own (cases_in b) (l ∙ sym (cases_counted b)) in
-        let r : retest_of own (cases_in b) ≡ case_at a p = m.1 ∙ sym (own_case p d) in
-        let i : p ≡ place_in (cases_in a) position = d ∙ place_in_law a (rules_known ok).0 position (omega (arith, (rules_known ok).2)) in
-        (rw (ok, r) (part_case a p x (rw d (place_fits a (rules_known ok).0 position (rules_known ok).2)) f), rw (ok, m.0, ← i) refl)
+      picks : ((picked_part s t a b position).case ≡ retest_of own (cases_in b)) × ((picked_part s t a b position).begins ≡ picked_at s t (cases_in a) (cases_in b) position)
+      unfolding picked_at
+      picks = rw picked_law (go (some (same_inputs own) (cases_in b)) refl)
+        where
+          go : (h : Bool) → some (same_inputs own) (cases_in b) ≡ h
+              → ((cond h (part_at t b (place_of b (match_of own (cases_in b)))) (part_at s a (place_of a position))).case ≡ retest_of own (cases_in b))
+              × ((cond h (part_at t b (place_of b (match_of own (cases_in b)))) (part_at s a (place_of a position))).begins
+              ≡ cond h (further (place_in (cases_in b) (match_of own (cases_in b))) t) (further (place_in (cases_in a) position) s))
+          go true e =
+              let m = match_some own (cases_in b) e in
+              let l : match_of own (cases_in b) < count_of (count_in b) = rw (cases_counted b) at m.0 in
+              (case_positioned b _ l ∙ sym m.1, ap (λ n. further n t) (place_in_law b (rules_known ok).1 _ (omega arith)))
+          go false e =
+              let k = rules_known ok in
+              (own_case ∙ sym (retest_own own (cases_in b) e), ap (λ n. further n s) (place_in_law a k.0 position (omega (arith, k.2))))
 
     -- the part handed back is the first retest case with the inputs of the case at the position, where there is one,
     pub retest_picks : (before : List Case) (d : Case) (after : List Case) → cases_in b ≡ before ++ (d ∷ after) → some (same_inputs own) before ≡ false
@@ -330,6 +251,26 @@ module _ (a b : List ℕ) (position : ℕ) where
     pub retest_whole : 1 ≤ length (retested a b position)
     unfolding retested case_bytes
     retest_whole = rw ok (omega arith)
+
+  -- the bytes of the case that the code picks are the part handed back,
+  pub picks_case : (s t : ℕ × ℕ) (x : Result Case_lent.Case Refusal) (k : Case_lent.Case)
+      → as_part x ≡ ruled (ruling (retest_rules a b position)) (picked_part s t a b position) → x ≡ Ok k
+      → (k.bytes.now ≡ retested a b position) × (k.bytes.ref_ptr ≡ retested_at s t a b position)
+  unfolding retested retested_at
+  picks_case s t x k e ek =
+      let h = ruled_passed _ _ (sym e ∙ ap as_part ek) in
+      let w = picks h.0 s t in
+      (k.whole ∙ rw h.0 (ap case_bytes (ap (λ (u : Part). u.case) h.1 ∙ w.0)), rw h.0 (ap (λ (u : Part). u.begins) h.1 ∙ w.1))
+
+  -- and its refusal is the rules'
+  pub picks_refused : (s t : ℕ × ℕ) (x : Result Case_lent.Case Refusal) (r : Refusal)
+      → as_part x ≡ ruled (ruling (retest_rules a b position)) (picked_part s t a b position) → x ≡ Err r → ruling (retest_rules a b position) ≡ refused r
+  picks_refused s t x r e er = ruled_refused _ _ (sym e ∙ ap as_part er)
+
+  -- where it picks one they say nothing
+  pub picks_fine : (s t : ℕ × ℕ) (x : Result Case_lent.Case Refusal) (k : Case_lent.Case)
+      → as_part x ≡ ruled (ruling (retest_rules a b position)) (picked_part s t a b position) → x ≡ Ok k → ruling (retest_rules a b position) ≡ fine
+  picks_fine s t x k e ek = (ruled_passed _ _ (sym e ∙ ap as_part ek)).0
 
   -- the part handed back is empty exactly on refusal
   pub retest_refused : (retested a b position ≡ []) ↔ ((r : Refusal) × (ruling (retest_rules a b position) ≡ refused r))

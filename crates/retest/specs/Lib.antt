@@ -1,1 +1,2 @@
 pub mod Retest
+pub mod Picked

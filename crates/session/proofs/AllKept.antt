@@ -3,13 +3,13 @@
 use Prim.Native.Nat.{ℕ}
 use mathlib.Core.Path.{◌≡◌, refl, ap}
 use mathlib.Core.List.{List}
+use Rattle.std.specs.Prelude.{Ok}
 use Rattle.shapes.specs.Refusals.{Ruling, fine, refused, ruling}
 use Rattle.shapes.proofs.Refusals.{ruling_joined}
-use Rattle.house.specs.Refusal.{checked}
+use Rattle.house.specs.Refusal.{checked, ruled}
 use Rattle.house.specs.Table.{head_in, table_rules, table_read}
-use Rattle.house.specs.Cases.{count_in, count_of, record_or, cases_in}
+use Rattle.house.specs.Cases.{count_in, count_of, cases_in}
 use Rattle.house.specs.declared.refusal.Refusal.{Refusal}
-use Rattle.house.specs.declared.table.TableFile.TheVariants.{Table}
 use Rattle.memory.specs.Form.{Formed, room_rules}
 use Rattle.session.specs.Calls.{outcome_or, start_rules, start_call, add_rules, add_call, withdraw_rules, withdraw_call, amend_rules, amend_call, load_rules, load_call}
 use Rattle.session.specs.History.{Call, start, add, amend, withdraw, load, Memory, memory, left, called}
@@ -27,7 +27,7 @@ keeps_or fine n s t s' t' k done = done refl
 keeps_or (refused r) n s t s' t' k done = k
 
 -- a table file that no rule refuses reads as its table
-pub table_read_law : (file : List ℕ) → ruling (table_rules file) ≡ fine → table_read file ≡ Table (head_in file)
+pub table_read_law : (file : List ℕ) → ruling (table_rules file) ≡ fine → table_read file ≡ Ok (head_in file)
 unfolding table_read
 table_read_law file e = rw e
 
@@ -51,6 +51,6 @@ form_kept (withdraw p) s t k =
 form_kept (load file) s t k =
     keeps_or (ruling (load_rules s t file)) _ s t _ _ k
     (λ e.
-    let x = record_or (ruling (load_rules s t file)) (count_of (count_in file)) in
-    let a = load_known s t file x refl (count_of (count_in file)) (ap (λ v. record_or v (count_of (count_in file))) e) in
+    let x = ruled (ruling (load_rules s t file)) (count_of (count_in file)) in
+    let a = load_known s t file x refl (count_of (count_in file)) (ap (λ v. ruled v (count_of (count_in file))) e) in
     load_keeps s t (cases_in file) k a.1.1.1.0 a.1.1.1.1)

@@ -3,8 +3,9 @@
 use Prim.Native.Nat.{ℕ}
 use mathlib.Core.Path.{◌≡◌}
 use mathlib.Core.List.{List}
+use Rattle.std.specs.Prelude.{Result}
+use Rattle.house.specs.declared.refusal.Refusal.{Refusal}
 use Rattle.shapes.specs.OneAnswer.{OneAnswer}
-use Rattle.house.specs.declared.refusal.Answer.{Answer}
 use Rattle.session.specs.Calls.{Outcome, after}
 use Rattle.session.proofs.calls.start.Kinds as start_kinds
 use Rattle.session.proofs.calls.start.Reads as start_reads
@@ -18,7 +19,7 @@ use Rattle.session.proofs.calls.load.Kinds as load_kinds
 use Rattle.session.proofs.calls.load.Reads as load_reads
 
 -- two outcomes that are the same have the same parts
-after_one : (r r' : Answer) (s s' t t' : List ℕ) (x : Outcome) → after r s t ≡ x → after r' s' t' ≡ x → (r ≡ r') × (s ≡ s') × (t ≡ t')
+after_one : (r r' : Result ℕ Refusal) (s s' t t' : List ℕ) (x : Outcome) → after r s t ≡ x → after r' s' t' ≡ x → (r ≡ r') × (s ≡ s') × (t ≡ t')
 after_one r r' s s' t t' x p q = (cc, cc, cc)
 
 pub start_one : OneAnswer start_kinds.ps start_kinds.r start_reads.Post

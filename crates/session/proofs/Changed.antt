@@ -1,15 +1,15 @@
 -- The calls that change a session: what is known where no rule of a call refuses, what the call then answers and leaves, and a record's cases
 -- held one after the other: what is left to hold makes of the session so far what all the cases make of the session as it was.
 -- Assumes nothing.
-use Prim.Native.Nat.{ℕ, suc, ◌+◌, ◌-◌, ◌≤◌, ◌<◌}
+use Prim.Native.Nat.{ℕ, ◌+◌, ◌-◌, ◌≤◌, ◌<◌}
 use mathlib.Core.Path.{◌≡◌, refl, sym, subst, ◌∙◌}
 use mathlib.Core.Bool.{Bool, true, false, cond}
-use mathlib.Core.List.{List}
+use mathlib.Core.List.{List, [], ◌∷◌}
 use borrow.Author.Tests.{ltb-false, leb-false, not-false}
-use native.Mathlib.Nat.{sub-zero}
 use native.Mathlib.Omega.{arith}
 use lib.Dec.{ltb}
 use lib.ListN.{length, get_or}
+use Rattle.std.specs.Prelude.{Result, Ok, Err}
 use Rattle.shapes.specs.Keep.{every}
 use Rattle.shapes.specs.Refusals.{Ruling, fine, refused, ruling}
 use Rattle.shapes.proofs.Refusals.{fine_when, ruling_joined}
@@ -20,26 +20,20 @@ use Rattle.machine.specs.Cell.{TableIn}
 use Rattle.machine.specs.Case.{Case, good_case, CaseIn, all_good, no_case}
 use Rattle.machine.specs.declared.head.Head.{Head}
 use Rattle.machine.proofs.Cases.{case_in}
-use Rattle.house.specs.File.{rest_at}
-use Rattle.house.specs.Cases.{case_end, case_at, count_in, count_of, record_rules, record_or, cases_from, cases_in, alone, case_rules, cases_rules}
-use Rattle.house.specs.Walk.{place_of}
-use Rattle.house.specs.Refusal.{checked}
+use Rattle.house.specs.Cases.{count_in, count_of, record_rules, record_read, cases_in, alone, case_rules, cases_rules}
+use Rattle.house.specs.Refusal.{checked, ruled}
 use Rattle.house.specs.declared.refusal.Refusal.{Refusal}
-use Rattle.house.specs.declared.refusal.Checked.{Checked}
-use Rattle.house.specs.declared.refusal.Checked.TheVariants.{Fine, Refused}
-use Rattle.house.specs.declared.refusal.Answer as Answer_type
-use Rattle.house.specs.declared.cases.RecordFile.{RecordFile}
-use Rattle.house.specs.declared.cases.RecordFile as RecordFile_type
 use Rattle.house.proofs.Records.{cases_counted}
-use Rattle.house.proofs.Places.{place_next}
 use Rattle.house.proofs.Against.{case_fine, cases_fine}
 use Rattle.memory.specs.Layout.{places_most, session_size, tallies_size, head_of, cells_of, case_of, cases, free_place}
 use Rattle.memory.specs.Form.{tally_most, Formed, form_rules, is_slot, slot_rules}
 use Rattle.session.specs.Calls.{Offer, after, outcome_or, add_rules, add_call, withdraw_rules, withdraw_call, amend_rules, amend_call, room_for_rules, load_rules, load_call, loaded_session, loaded_tallies}
-use Rattle.tallies.specs.Tallies.{can_take, raised, lowered}
+use Rattle.tallies.specs.Tallies.{can_take, raised, raised_by, lowered}
 use Rattle.memory.specs.Store.{placed}
 use Rattle.memory.proofs.Formed.{formed_table, formed_tally, table_good, cases_most_law}
 use Rattle.memory.proofs.Stored.{head_placed, length_placed}
+use Rattle.machine.proofs.Sound.{numbers_few}
+use Rattle.tallies.proofs.Tallying.{raised_on}
 use Rattle.tallies.proofs.Tallied.{lowered_in, length_lowered, length_raised}
 use Rattle.memory.proofs.Held.{good_fits, slot_inside, add_count, free_left, formed_numbers}
 use Rattle.session.proofs.Kept.{add_keeps}
@@ -66,6 +60,19 @@ CanRaise s t c =
 abbrev CanStore : List ℕ → ℕ → Case → Type 0
 CanStore s p c =
     ((session_size ≤ length s) × (p < places_most)) × ((length c.inputs ≤ steps_most) × (length c.outputs ≡ length c.inputs))
+
+-- a case on a table that is the session's, as the code lends it
+module _ (s : List ℕ) (c : Case) {h : Head} {cells : List ℕ} (eh : h ≡ head_of s) (ec : cells ≡ cells_of s) where
+  -- can be counted in where it can be on the session's own,
+  pub raise_on : (t : List ℕ) → CanRaise s t c
+      → CaseIn h c.inputs c.outputs × ((numbers h ≤ length t) × ((f : ℕ) → f < numbers h → get_or t f 0 < 65535))
+  raise_on t k =
+      rw eh
+      (let few = numbers_few (head_of s) k.1.0.head in (k.1.1.0, ((let room = k.0.1 in omega arith), k.1.1.1)))
+
+  -- and is counted in as it is there
+  pub raised_told : (t : List ℕ) {t' : List ℕ} → t' ≡ raised_by (record { head = h; cells = cells; case = c }) t → t' ≡ raised s c t
+  raised_told t e = e ∙ raised_on s c (record { head = h; cells = cells; case = c }) (rw (eh, ec)) t
 
 module _ (s t : List ℕ) (k : Formed s t) (c : Case) (g : good_case (head_of s) c.inputs c.outputs ≡ true) where
   -- a case can be counted into tallies that are no higher than those of a well-formed session,
@@ -96,13 +103,13 @@ module _ (s t : List ℕ) (k : Formed s t) (c : Case) (g : good_case (head_of s)
   pub store_known : (p : ℕ) → p < places_most → CanStore s p c
   store_known p l = let f = good_fits (head_of s) c g in ((k.session_room, l), (f.few, f.even))
 
-module _ (s t : List ℕ) (o : Offer) (x : Checked) (e : x ≡ checked (ruling (add_rules s t o))) where
+module _ (s t : List ℕ) (o : Offer) (x : Result (Unit {0}) Refusal) (e : x ≡ checked (ruling (add_rules s t o))) where
   -- an addition that the check refuses is refused so, and changes nothing;
-  pub add_refused : {r : Refusal} → x ≡ Refused r → after (Answer_type.TheVariants.Refused r) s t ≡ add_call s t o
+  pub add_refused : {r : Refusal} → x ≡ Err r → after (Err r) s t ≡ add_call s t o
   unfolding add_call
   add_refused d = rw (told_refused (ruling (add_rules s t o)) e d)
 
-  module _ (d : x ≡ Fine) where
+  module _ (d : x ≡ Ok tt) where
     -- one that is not is of a case that can be run, with a place free for it,
     pub add_known : Formed s t × ((good_case (head_of s) o.case.inputs o.case.outputs ≡ true) × (free_place s < places_most))
     unfolding add_rules
@@ -113,17 +120,17 @@ module _ (s t : List ℕ) (o : Offer) (x : Checked) (e : x ≡ checked (ruling (
 
     -- and answers and leaves what an addition is to
     pub add_done : {n : ℕ} {s' t' : List ℕ} → n ≡ free_place s → s' ≡ placed s (free_place s) o.case → t' ≡ raised s o.case t
-        → after (Answer_type.TheVariants.Done n) s' t' ≡ add_call s t o
+        → after (Ok n) s' t' ≡ add_call s t o
     unfolding add_call
     add_done a b f = rw (told_fine (ruling (add_rules s t o)) e d, a, b, f)
 
-module _ (s t : List ℕ) (p : ℕ) (x : Checked) (e : x ≡ checked (ruling (withdraw_rules s t p))) where
+module _ (s t : List ℕ) (p : ℕ) (x : Result (Unit {0}) Refusal) (e : x ≡ checked (ruling (withdraw_rules s t p))) where
   -- a withdrawal that the check refuses is refused so, and changes nothing;
-  pub withdraw_refused : {r : Refusal} → x ≡ Refused r → after (Answer_type.TheVariants.Refused r) s t ≡ withdraw_call s t p
+  pub withdraw_refused : {r : Refusal} → x ≡ Err r → after (Err r) s t ≡ withdraw_call s t p
   unfolding withdraw_call
   withdraw_refused d = rw (told_refused (ruling (withdraw_rules s t p)) e d)
 
-  module _ (d : x ≡ Fine) where
+  module _ (d : x ≡ Ok tt) where
     -- one that is not is of a case that is held and can be counted out of the tallies,
     pub withdraw_known : Formed s t × ((is_slot s p ≡ true) × (can_take s t p ≡ true))
     unfolding withdraw_rules
@@ -138,17 +145,17 @@ module _ (s t : List ℕ) (p : ℕ) (x : Checked) (e : x ≡ checked (ruling (wi
 
     -- and answers and leaves what a withdrawal is to
     pub withdraw_done : {s' t' : List ℕ} → s' ≡ placed s p no_case → t' ≡ lowered s (case_of s p) t
-        → after (Answer_type.TheVariants.Done 0) s' t' ≡ withdraw_call s t p
+        → after (Ok 0) s' t' ≡ withdraw_call s t p
     unfolding withdraw_call
     withdraw_done a b = rw (told_fine (ruling (withdraw_rules s t p)) e d, a, b)
 
-module _ (s t : List ℕ) (p : ℕ) (o : Offer) (x : Checked) (e : x ≡ checked (ruling (amend_rules s t p o))) where
+module _ (s t : List ℕ) (p : ℕ) (o : Offer) (x : Result (Unit {0}) Refusal) (e : x ≡ checked (ruling (amend_rules s t p o))) where
   -- an amendment that the check refuses is refused so, and changes nothing;
-  pub amend_refused : {r : Refusal} → x ≡ Refused r → after (Answer_type.TheVariants.Refused r) s t ≡ amend_call s t p o
+  pub amend_refused : {r : Refusal} → x ≡ Err r → after (Err r) s t ≡ amend_call s t p o
   unfolding amend_call
   amend_refused d = rw (told_refused (ruling (amend_rules s t p o)) e d)
 
-  module _ (d : x ≡ Fine) where
+  module _ (d : x ≡ Ok tt) where
     -- one that is not is of a case that can be run, for one that is held and can be counted out of the tallies,
     pub amend_known : (Formed s t × ((is_slot s p ≡ true) × (can_take s t p ≡ true))) × (good_case (head_of s) o.case.inputs o.case.outputs ≡ true)
     unfolding amend_rules
@@ -172,28 +179,28 @@ module _ (s t : List ℕ) (p : ℕ) (o : Offer) (x : Checked) (e : x ≡ checked
 
     -- and answers and leaves what an amendment is to
     pub amend_done : {s' t' t'' : List ℕ} → s' ≡ placed s p o.case → t' ≡ lowered s (case_of s p) t → t'' ≡ raised s o.case t'
-        → after (Answer_type.TheVariants.Done 0) s' t'' ≡ amend_call s t p o
+        → after (Ok 0) s' t'' ≡ amend_call s t p o
     unfolding amend_call
     amend_done a b f = rw (told_fine (ruling (amend_rules s t p o)) e d, a, f, b)
 
-module _ (s t file : List ℕ) (x : RecordFile) (e : x ≡ record_or (ruling (load_rules s t file)) (count_of (count_in file))) where
+module _ (s t file : List ℕ) (x : Result ℕ Refusal) (e : x ≡ ruled (ruling (load_rules s t file)) (count_of (count_in file))) where
   -- a load that the check refuses is refused so, and changes nothing;
-  pub load_refused : {r : Refusal} → x ≡ RecordFile_type.TheVariants.Refused r → after (Answer_type.TheVariants.Refused r) s t ≡ load_call s t file
+  pub load_refused : {r : Refusal} → x ≡ Err r → after (Err r) s t ≡ load_call s t file
   unfolding load_call
   load_refused {r} d = go (ruling (load_rules s t file)) (sym e ∙ d)
     where
-      go : (v : Ruling Refusal) → record_or v (count_of (count_in file)) ≡ RecordFile_type.TheVariants.Refused r
-          → after (Answer_type.TheVariants.Refused r) s t
+      go : (v : Ruling Refusal) → ruled v (count_of (count_in file)) ≡ Err r
+          → after (Err r) s t
           ≡ outcome_or v (length (cases_in file)) s t (loaded_session s (cases_in file)) (loaded_tallies s (cases_in file) t)
       go fine k = cc
       go (refused q) k = cc
 
-  module _ (n : ℕ) (d : x ≡ RecordFile_type.TheVariants.Record n) where
+  module _ (n : ℕ) (d : x ≡ Ok n) where
     -- where the check answers a count no rule refuses, and it is the count of the record's cases;
     load_counted : (ruling (load_rules s t file) ≡ fine) × (n ≡ count_of (count_in file))
     load_counted = go (ruling (load_rules s t file)) (sym e ∙ d)
       where
-        go : (v : Ruling Refusal) → record_or v (count_of (count_in file)) ≡ RecordFile_type.TheVariants.Record n → (v ≡ fine) × (n ≡ count_of (count_in file))
+        go : (v : Ruling Refusal) → ruled v (count_of (count_in file)) ≡ Ok n → (v ≡ fine) × (n ≡ count_of (count_in file))
         go fine k = (refl, cc)
         go (refused q) k = (cc, cc)
 
@@ -211,85 +218,64 @@ module _ (s t file : List ℕ) (x : RecordFile) (e : x ≡ record_or (ruling (lo
         let l : length (cases_in file) ≤ places_most - length (cases s) = ltb-false _ _ ((fine_when _).0 g.1).0 in
         (rules_formed s t a.0, (b.0, (load_counted.1, ((cases_fine (head_of s) alone (cases_in file)).0 g.0, omega (arith, cases_most_law s)))))
 
+    -- so it was read,
+    pub load_read : record_read file ≡ Ok n
+    unfolding record_read
+    load_read = let k = load_known in rw (k.1.0, ← k.1.1.0)
+
     -- and what a load is to answer and to leave
     pub load_done : {s' t' : List ℕ} → s' ≡ loaded_session s (cases_in file) → t' ≡ loaded_tallies s (cases_in file) t
-        → after (Answer_type.TheVariants.Done n) s' t' ≡ load_call s t file
+        → after (Ok n) s' t' ≡ load_call s t file
     unfolding load_call
     load_done a b = rw (load_counted.0, a, b, load_counted.1, cases_counted file)
 
--- where holding a record's cases stands: before case i, at its place, with what is left to hold
-pub record Holding (s t file : List ℕ) (count i at : ℕ) (s' t' : List ℕ) : Type 0 where
-  pub inside : i ≤ count
-  pub place : at ≡ place_of file i
+-- where holding cases one after the other stands: with some that are left to hold
+pub record Holding (s t : List ℕ) (cs left : List Case) (s' t' : List ℕ) : Type 0 where
   pub formed : Formed s' t'
   pub same_session : length s' ≡ length s
   pub same_tallies : length t' ≡ length t
-  pub stored : loaded_session s' (cases_from file (count - i) at) ≡ loaded_session s (cases_in file)
-  pub counted : loaded_tallies s' (cases_from file (count - i) at) t' ≡ loaded_tallies s (cases_in file) t
-  pub good : all_good (head_of s') (cases_from file (count - i) at) ≡ true
-  pub room : length (cases s') + (count - i) ≤ places_most
+  pub stored : loaded_session s' left ≡ loaded_session s cs
+  pub counted : loaded_tallies s' left t' ≡ loaded_tallies s cs t
+  pub good : all_good (head_of s') left ≡ true
+  pub room : length (cases s') + length left ≤ places_most
 
-module _ (s t file : List ℕ) (count : ℕ) where
-  -- it begins so
-  pub holding_begins : Formed s t → count ≡ count_of (count_in file) → all_good (head_of s) (cases_in file) ≡ true
-      → length (cases s) + length (cases_in file) ≤ places_most → Holding s t file count 0 rest_at s t
-  unfolding place_of cases_in
-  holding_begins k e g l =
-      record {
-        inside = omega arith;
-        place = refl;
-        formed = k;
-        same_session = refl;
-        same_tallies = refl;
-        stored = rw (sub-zero, e);
-        counted = rw (sub-zero, e);
-        good = rw (sub-zero, e) g;
-        room = rw (sub-zero, e, ← cases_counted file) l;
-      }
+module _ (s t : List ℕ) (cs : List Case) where
+  -- it begins with all of them,
+  pub holding_begins : (left : List Case) → left ≡ cs → Formed s t → all_good (head_of s) cs ≡ true → length (cases s) + length cs ≤ places_most
+      → Holding s t cs left s t
+  holding_begins left e k g l =
+      rw e (record { formed = k; same_session = refl; same_tallies = refl; stored = refl; counted = refl; good = g; room = l })
 
-  module _ (i at : ℕ) (s' t' : List ℕ) (h : Holding s t file count i at s' t') where
-    -- the next case can be run, and so can those after it,
-    next_good : i < count
-        → (good_case (head_of s') (case_at file at).inputs (case_at file at).outputs ≡ true)
-        × (all_good (head_of s') (cases_from file (count - (i + 1)) (case_end file at)) ≡ true)
-    unfolding cases_from all_good every
-    next_good l =
-        let n : count - i ≡ suc (count - (i + 1)) = omega arith in
-        and_true (good_case (head_of s') (case_at file at).inputs (case_at file at).outputs) _ (rw n at h.good)
+  module _ (c : Case) (left rest : List Case) (s' t' : List ℕ) (e : left ≡ c ∷ rest) (h : Holding s t cs left s' t') where
+    -- the next can be run, and so can those after it,
+    next_good : (good_case (head_of s') c.inputs c.outputs ≡ true) × (all_good (head_of s') rest ≡ true)
+    unfolding all_good every
+    next_good = and_true (good_case (head_of s') c.inputs c.outputs) _ (rw e at h.good)
 
     -- so it can be held,
-    pub holding_next : i < count → (c : Case) → c ≡ case_at file at
-        → Formed s' t' × ((good_case (head_of s') c.inputs c.outputs ≡ true) × (free_place s' < places_most))
-    holding_next l c e = (h.formed, (rw e (next_good l).0, free_left s' (omega (arith, h.room))))
+    pub holding_next : Formed s' t' × ((good_case (head_of s') c.inputs c.outputs ≡ true) × (free_place s' < places_most))
+    holding_next = (h.formed, (next_good.0, free_left s' (omega (arith, rw e at h.room))))
 
-    -- and once it is the one after is next,
-    holding_turn : i < count
-        → Holding s t file count (i + 1) (case_end file at) (placed s' (free_place s') (case_at file at)) (raised s' (case_at file at) t')
-    unfolding cases_from loaded_session loaded_tallies
-    holding_turn l =
-        let n : count - i ≡ suc (count - (i + 1)) = omega arith in
-        let k = holding_next l (case_at file at) refl in
-        let f = good_fits (head_of s') (case_at file at) k.1.0 in
-        let head = head_placed s' k.0.session_room (free_place s') k.1.1 (case_at file at) f in
-        record {
-          inside = omega arith;
-          place = place_next file i at (get_or file at 0) h.place refl;
-          formed = add_keeps s' t' (case_at file at) k.0 k.1.0 k.1.1;
-          same_session = length_placed s' k.0.session_room (free_place s') k.1.1 (case_at file at) f ∙ h.same_session;
-          same_tallies = length_raised s' (case_at file at) t' ∙ h.same_tallies;
-          stored = rw n at h.stored;
-          counted = rw n at h.counted;
-          good = subst (λ (g : Head). all_good g (cases_from file (count - (i + 1)) (case_end file at)) ≡ true) (sym head) (next_good l).1;
-          room = omega (arith, h.room, add_count s' t' (case_at file at) k.0 k.1.0 k.1.1);
-        }
+    -- and once it is those after it are left
+    pub holding_goes_on : (s'' t'' : List ℕ) → s'' ≡ placed s' (free_place s') c → t'' ≡ raised s' c t' → Holding s t cs rest s'' t''
+    unfolding loaded_session loaded_tallies
+    holding_goes_on s'' t'' es et =
+        let k = holding_next in
+        let f = good_fits (head_of s') c k.1.0 in
+        let head = head_placed s' k.0.session_room (free_place s') k.1.1 c f in
+        let room = rw e at h.room in
+        rw (es, et)
+        (record {
+          formed = add_keeps s' t' c k.0 k.1.0 k.1.1;
+          same_session = length_placed s' k.0.session_room (free_place s') k.1.1 c f ∙ h.same_session;
+          same_tallies = length_raised s' c t' ∙ h.same_tallies;
+          stored = rw e at h.stored;
+          counted = rw e at h.counted;
+          good = subst (λ (g : Head). all_good g rest ≡ true) (sym head) next_good.1;
+          room = omega (arith, room, add_count s' t' c k.0 k.1.0 k.1.1);
+        })
 
-    -- as the code finds it,
-    pub holding_goes_on : i < count → (end x y : ℕ) (c : Case) (s'' t'' : List ℕ) → x ≡ get_or file at 0 → y ≡ get_or file at 0 → end ≡ at + 1 + x + y
-        → c ≡ case_at file at → s'' ≡ placed s' (free_place s') c → t'' ≡ raised s' c t' → Holding s t file count (i + 1) end s'' t''
-    holding_goes_on l end x y c s'' t'' ex ey ee ec es et =
-        let en : end ≡ case_end file at = omega arith in rw (en, es, et, ec) (holding_turn l)
-
-    -- and where none is left all are held
-    pub holding_ends : count ≤ i → (s' ≡ loaded_session s (cases_in file)) × (t' ≡ loaded_tallies s (cases_in file) t)
-    unfolding cases_from loaded_session loaded_tallies
-    holding_ends l = let n : count - i ≡ 0 = omega arith in (rw n at h.stored, rw n at h.counted)
+  -- and where none is left all are held
+  pub holding_ends : (left : List Case) (s' t' : List ℕ) → left ≡ [] → Holding s t cs left s' t' → (s' ≡ loaded_session s cs) × (t' ≡ loaded_tallies s cs t)
+  unfolding loaded_session loaded_tallies
+  holding_ends left s' t' e h = (rw e at h.stored, rw e at h.counted)

@@ -1,4 +1,4 @@
--- Demand 3: after a start that answered Done 0 and any list of calls, refused ones among them, the memory shows the model. A call's rules let it
+-- Demand 3: after a start that answered Ok 0 and any list of calls, refused ones among them, the memory shows the model. A call's rules let it
 -- pass exactly where the model takes it, so both change or both stay; what a store changes in the memory is what the model changes; and the
 -- answer says which, with the number that the model tells.
 -- Assumes nothing.
@@ -11,6 +11,7 @@ use native.Mathlib.Omega.{arith}
 use lib.Dec.{eqb, ltb, leb}
 use lib.ListN.{length, get_or}
 use borrow.Author.Tests.{eqb-true, eqb-false, lt-ltb, le-ltb, le-leb, lt-leb, ltb-true, ltb-false, leb-true, leb-false}
+use Rattle.std.specs.Prelude.{Err, Ok, Result}
 use Rattle.shapes.specs.Keep.{every}
 use Rattle.shapes.specs.Refusals.{Rule, when, Ruling, fine, refused, ruling}
 use Rattle.shapes.proofs.First.{first_same}
@@ -20,13 +21,10 @@ use Rattle.machine.specs.Head.{numbers}
 use Rattle.machine.specs.Cell.{TableIn}
 use Rattle.machine.specs.Case.{Case, good_case, all_good, no_case}
 use Rattle.machine.specs.declared.head.Head.{Head}
-use Rattle.house.specs.Refusal.{checked}
-use Rattle.house.specs.Table.{head_in, table_rules, table_or, table_read}
-use Rattle.house.specs.Cases.{count_in, count_of, record_rules, record_or, record_read, cases_in, alone, case_rules, cases_rules}
+use Rattle.house.specs.Refusal.{checked, ruled}
+use Rattle.house.specs.Table.{head_in, table_rules, table_read}
+use Rattle.house.specs.Cases.{count_in, count_of, record_rules, record_read, cases_in, alone, case_rules, cases_rules}
 use Rattle.house.specs.declared.refusal.Refusal.{Refusal}
-use Rattle.house.specs.declared.refusal.Answer.{Answer}
-use Rattle.house.specs.declared.refusal.Answer.TheVariants.{Done, Refused}
-use Rattle.house.specs.declared.table.TableFile.TheVariants.{Table}
 use Rattle.house.proofs.Tables.{table_taken}
 use Rattle.house.proofs.Against.{case_fine, cases_fine}
 use Rattle.diagnosis.specs.Diagnosis.{tally}
@@ -58,12 +56,12 @@ Decides fine b = b ≡ true
 Decides (refused r) b = b ≡ false
 
 -- what is read from a file is a table exactly if its rules let it pass,
-table_decides : (v : Ruling Refusal) (h : Head) → Decides v (is_table (table_or v h))
+table_decides : (v : Ruling Refusal) (h : Head) → Decides v (is_table (ruled v h))
 table_decides fine h = refl
 table_decides (refused r) h = refl
 
 -- and a record so too
-record_decides : (v : Ruling Refusal) (n : ℕ) → Decides v (is_record (record_or v n))
+record_decides : (v : Ruling Refusal) (n : ℕ) → Decides v (is_record (ruled v n))
 record_decides fine n = refl
 record_decides (refused r) n = refl
 
@@ -230,7 +228,7 @@ load_shows s t m (c ∷ cs) k good few =
     load_shows (placed s (free_place s) c) (raised s c t) _ cs next (subst (λ (h : Head). all_good h cs ≡ true) (sym head) g.1) (omega arith)
 
 -- a session that was started shows the model that its file starts
-started_shows : (s t file : List ℕ) → session_size ≤ length s → tallies_size ≤ length t → table_read file ≡ Table (head_in file)
+started_shows : (s t file : List ℕ) → session_size ≤ length s → tallies_size ≤ length t → table_read file ≡ Ok (head_in file)
     → Shows (started s file) (cleared t) (started_model file)
 unfolding started_model content_of
 started_shows s t file room rest read =
@@ -244,7 +242,7 @@ started_shows s t file room rest read =
 
 -- no rule refuses a start exactly if there is room and the file is a table
 start_fine : (s t file : List ℕ)
-    → (ruling (start_rules s t file) ≡ fine) ↔ ((session_size ≤ length s) × ((tallies_size ≤ length t) × (table_read file ≡ Table (head_in file))))
+    → (ruling (start_rules s t file) ≡ fine) ↔ ((session_size ≤ length s) × ((tallies_size ≤ length t) × (table_read file ≡ Ok (head_in file))))
 unfolding start_rules
 start_fine s t file = (
   λ e.
@@ -256,17 +254,17 @@ start_fine s t file = (
       ∙ (fine_when (table_rules file)).1 (table_taken file (head_in file) k.1.1).0,
 )
 
--- a start that answered Done 0 had room and a table file, and else it did not
+-- a start that answered Ok 0 had room and a table file, and else it did not
 pub start_accepted : (s t file : List ℕ)
-    → (answer_of (start_call s t file) ≡ Done 0)
-    ↔ ((session_size ≤ length s) × ((tallies_size ≤ length t) × (table_read file ≡ Table (head_in file))))
+    → (answer_of (start_call s t file) ≡ Ok 0)
+    ↔ ((session_size ≤ length s) × ((tallies_size ≤ length t) × (table_read file ≡ Ok (head_in file))))
 unfolding start_call
 start_accepted s t file =
     let v = ruling (start_rules s t file) in
     through (outcome_done v 0 0 s t (started s file) (cleared t)) (λ e. (start_fine s t file).0 e.0, λ k. ((start_fine s t file).1 k, refl))
 
 -- and such a start shows its model
-pub start_shows : (s t file : List ℕ) → answer_of (start_call s t file) ≡ Done 0 → ShowsMemory (left (start_call s t file)) (started_model file)
+pub start_shows : (s t file : List ℕ) → answer_of (start_call s t file) ≡ Ok 0 → ShowsMemory (left (start_call s t file)) (started_model file)
 unfolding start_call
 start_shows s t file e =
     let k = (start_accepted s t file).0 e in rw ((start_fine s t file).1 k) (started_shows s t file k.0 k.1.0 k.1.1)
@@ -448,8 +446,8 @@ module _ (c : Call) (s t : List ℕ) (m : Model) (k : Shows s t m) where
       let f = call_follows c s t m k in
       rw f.does (done_shows f.said f.number s t f.session f.tallies (takes c m) m (makes c m) f.decided k f.next)
 
-  -- a call answers Done exactly where the model takes it, with the number that the model tells
-  pub answered_exactly : (n : ℕ) → (answered c (memory s t) ≡ Done n) ↔ ((takes c m ≡ true) × (n ≡ tells c m))
+  -- a call answers Ok exactly where the model takes it, with the number that the model tells
+  pub answered_exactly : (n : ℕ) → (answered c (memory s t) ≡ Ok n) ↔ ((takes c m ≡ true) × (n ≡ tells c m))
   unfolding answered
   answered_exactly n =
       let f = call_follows c s t m k in
@@ -458,7 +456,7 @@ module _ (c : Call) (s t : List ℕ) (m : Model) (k : Shows s t m) where
       (through (outcome_done f.said f.number n s t f.session f.tallies)
       (λ e. (d.0 e.0, e.1 ∙ f.told), λ e. (d.1 e.0, e.1 ∙ sym f.told)))
 
-  -- so what a call that answered Done makes of the model is the model's step
+  -- so what a call that answered Ok makes of the model is the model's step
   accepted_step : accepted (answered c (memory s t)) c m ≡ step c m
   unfolding answered step
   accepted_step =
@@ -466,8 +464,8 @@ module _ (c : Call) (s t : List ℕ) (m : Model) (k : Shows s t m) where
       rw f.does (done_accepted f.said f.number s t f.session f.tallies (takes c m) c m f.decided)
 
   -- where a call is refused the model stays
-  pub refused_step : (r : Refusal) → answered c (memory s t) ≡ Refused r → step c m ≡ m
-  refused_step r e = sym accepted_step ∙ ap (λ (a : Answer). accepted a c m) e
+  pub refused_step : (r : Refusal) → answered c (memory s t) ≡ Err r → step c m ≡ m
+  refused_step r e = sym accepted_step ∙ ap (λ (a : Result ℕ Refusal). accepted a c m) e
 
 -- calls one after the other keep it so too,
 calls_show : (calls : List Call) (x : Memory) (m : Model) → ShowsMemory x m → ShowsMemory (called_all calls x) (steps calls m)
@@ -475,7 +473,7 @@ unfolding called_all steps
 calls_show [] x m k = k
 calls_show (c ∷ cs) (memory s t) m k = calls_show cs (called c (memory s t)) (step c m) (call_shows c s t m k)
 
--- so the calls that answered Done leave what the model's steps leave
+-- so the calls that answered Ok leave what the model's steps leave
 pub accepted_steps : (calls : List Call) (x : Memory) (m : Model) → ShowsMemory x m → accepted_all calls x m ≡ steps calls m
 unfolding accepted_all steps
 accepted_steps [] x m k = refl
@@ -483,8 +481,8 @@ accepted_steps (c ∷ cs) (memory s t) m k =
     ap (accepted_all cs (called c (memory s t))) (accepted_step c s t m k)
     ∙ accepted_steps cs (called c (memory s t)) (step c m) (call_shows c s t m k)
 
--- after a start that answered Done 0 and any list of calls the memory shows the model
-pub history : (s t file : List ℕ) → answer_of (start_call s t file) ≡ Done 0 → (calls : List Call)
+-- after a start that answered Ok 0 and any list of calls the memory shows the model
+pub history : (s t file : List ℕ) → answer_of (start_call s t file) ≡ Ok 0 → (calls : List Call)
     → ShowsMemory (called_all calls (left (start_call s t file))) (steps calls (started_model file))
 history s t file e calls = calls_show calls (left (start_call s t file)) (started_model file) (start_shows s t file e)
 

@@ -6,13 +6,14 @@ use mathlib.Core.Bool.{Bool, true, false, cond, false≢true}
 use mathlib.Core.List.{List, [], ◌∷◌}
 use native.Mathlib.Omega.{arith}
 use lib.ListN.{length, length-drop}
+use Rattle.std.specs.Prelude.{Ok}
 use Rattle.shapes.specs.Refusals.{Ruling, fine, refused, ruling}
 use Rattle.machine.specs.Head.{cell_count}
 use Rattle.machine.specs.Cell.{TableIn}
 use Rattle.machine.specs.declared.head.Head.{Head}
-use Rattle.house.specs.Table.{head_in, table_rules, table_or, table_read}
+use Rattle.house.specs.Refusal.{ruled}
+use Rattle.house.specs.Table.{head_in, table_rules, table_read}
 use Rattle.house.specs.declared.refusal.Refusal.{Refusal}
-use Rattle.house.specs.declared.table.TableFile.TheVariants.{Table}
 use Rattle.house.proofs.Tables.{table_known}
 use Rattle.session.specs.History.{Call, start, add, amend, withdraw, load, Model, started_model, is_table, takes, makes, step, steps}
 
@@ -22,14 +23,14 @@ pub record Whole (m : Model) : Type 0 where
   pub exact : length m.cells ≡ 2 * cell_count m.head
 
 -- a file that is a table starts one,
-pub started_whole : (file : List ℕ) → table_read file ≡ Table (head_in file) → Whole (started_model file)
+pub started_whole : (file : List ℕ) → table_read file ≡ Ok (head_in file) → Whole (started_model file)
 unfolding started_model
 started_whole file read =
     let k = table_known file (head_in file) read in
     record { table = k.0; exact = rw length-drop (omega (arith, k.1)) }
 
 -- as is one that is taken as a table,
-is_table_law : (v : Ruling Refusal) (h : Head) → is_table (table_or v h) ≡ true → table_or v h ≡ Table h
+is_table_law : (v : Ruling Refusal) (h : Head) → is_table (ruled v h) ≡ true → ruled v h ≡ Ok h
 is_table_law fine h e = refl
 is_table_law (refused r) h e = absurd (false≢true e)
 

@@ -11,8 +11,8 @@ use Rattle.shapes.specs.Refusals.{Ruling, fine, refused, ruling}
 use Rattle.shapes.proofs.Edit.{kept_all, kept_then, edit_keeps}
 use Rattle.machine.specs.Case.{Case, no_case}
 use Rattle.house.specs.File.{rest_at}
-use Rattle.house.specs.Refusal.{checked}
-use Rattle.house.specs.Cases.{count_in, count_of, record_or, cases_in}
+use Rattle.house.specs.Refusal.{checked, ruled}
+use Rattle.house.specs.Cases.{count_in, count_of, cases_in}
 use Rattle.house.specs.declared.refusal.Refusal.{Refusal}
 use Rattle.memory.specs.Layout.{places_most, place_size, session_size, tallies_size, case_of, free_place, place_at, place_byte}
 use Rattle.memory.specs.Form.{Formed}
@@ -90,8 +90,8 @@ tails_kept (withdraw p) s t =
 tails_kept (load file) s t =
     tails_or (ruling (load_rules s t file)) _ s t _ _
     (λ e.
-    let x = record_or (ruling (load_rules s t file)) (count_of (count_in file)) in
-    let a = load_known s t file x refl (count_of (count_in file)) (ap (λ v. record_or v (count_of (count_in file))) e) in
+    let x = ruled (ruling (load_rules s t file)) (count_of (count_in file)) in
+    let a = load_known s t file x refl (count_of (count_in file)) (ap (λ v. ruled v (count_of (count_in file))) e) in
     load_adds (λ s' t'. TailsKept s t (memory s' t'))
     (λ s' t' c k now g l. (kept_then now.0 (placed_keeps s' (free_place s') c l), kept_then now.1 (raised_keeps s' t' k c t')))
     s t (cases_in file) a.0 (tails_all s t) a.1.1.1.0 a.1.1.1.1)

@@ -8,6 +8,7 @@ use mathlib.Core.Bool.{true}
 use native.Mathlib.Omega.{arith}
 use lib.ListN.{length, get_or}
 use borrow.Author.Tests.{le-leb}
+use Rattle.std.specs.Prelude.{Ok}
 use Rattle.shapes.specs.Keep.{count}
 use Rattle.shapes.proofs.First.{all_from}
 use Rattle.shapes.proofs.Keep.{count_most}
@@ -15,7 +16,6 @@ use Rattle.machine.specs.Head.{numbers}
 use Rattle.machine.specs.Case.{Case, good_case, no_case}
 use Rattle.machine.specs.declared.head.Head.{Head}
 use Rattle.house.specs.Table.{table_read}
-use Rattle.house.specs.declared.table.TableFile.TheVariants.{Table}
 use Rattle.house.proofs.Tables.{table_known}
 use Rattle.diagnosis.specs.Diagnosis.{misses, tally}
 use Rattle.memory.specs.Layout.{places_most, session_size, tallies_size, head_of, cells_of, case_of, cases, free_place}
@@ -118,7 +118,7 @@ amend_true s t p c k now slot g = true_placed s k.session_room p inside c (good_
         rw (raised_in s c less f m there, tally_taken s t p k now slot f m, tally_more s (cases_put s t k p inside c g) f) (omega arith)
 
 -- and after a start the tallies are true
-pub start_true : (s t file : List ℕ) (h : Head) → session_size ≤ length s → tallies_size ≤ length t → table_read file ≡ Table h
+pub start_true : (s t file : List ℕ) (h : Head) → session_size ≤ length s → tallies_size ≤ length t → table_read file ≡ Ok h
     → TrueTallies (started s file) (cleared t)
 unfolding tally count
 start_true s t file h room rest read f m =

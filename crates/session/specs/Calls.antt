@@ -1,13 +1,12 @@
 -- The calls that change a session (document 01, "Session memory", "Refusal numbers", Order): each is its rules in the paper's order, and what
 -- is done where none refuses. A refusal leaves both buffers as they were.
-use Rattle.std.specs.Prelude.{ℕ, ◌-◌, List, [], ◌∷◌, ◌++◌, not, ltb, leb, length}
+use Rattle.std.specs.Prelude.{ℕ, ◌-◌, List, [], ◌∷◌, ◌++◌, not, ltb, leb, length, Result, Ok, Err}
 use Rattle.shapes.specs.Refusals.{Rule, when, Ruling, fine, refused, ruling}
 use Rattle.machine.specs.Case.{Case, as_case, no_case}
 use Rattle.house.specs.Table.{table_rules}
 use Rattle.house.specs.Cases.{record_rules, cases_in, alone, case_rules, cases_rules}
 use Rattle.house.specs.declared.refusal.Refusal.{Refusal}
 use Rattle.house.specs.declared.refusal.Refusal.TheVariants.{Full, Damaged}
-use Rattle.house.specs.declared.refusal.Answer as Answer_type
 use Rattle.memory.specs.Layout.{places_most, head_of, case_of, cases, free_place}
 use Rattle.memory.specs.Form.{room_rules, form_rules, slot_rules}
 use Rattle.tallies.specs.Tallies.{can_take, raised, lowered}
@@ -15,12 +14,12 @@ use Rattle.memory.specs.Store.{placed, started, cleared}
 
 -- what a call answers, with what it leaves in the session and in the tallies
 pub data Outcome : Type 0 where
-  after : Answer_type.Answer → List ℕ → List ℕ → Outcome
+  after : Result ℕ Refusal → List ℕ → List ℕ → Outcome
 
 -- where the rules say nothing the call answers n and leaves s' and t'; a refusal leaves s and t
 abbrev pub outcome_or : Ruling Refusal → ℕ → List ℕ → List ℕ → List ℕ → List ℕ → Outcome
-outcome_or fine n s t s' t' = after (Answer_type.TheVariants.Done n) s' t'
-outcome_or (refused r) n s t s' t' = after (Answer_type.TheVariants.Refused r) s t
+outcome_or fine n s t s' t' = after (Ok n) s' t'
+outcome_or (refused r) n s t s' t' = after (Err r) s t
 
 -- start: "takes a table file, copies the table in and clears places and tallies"
 unfoldable pub start_rules : List ℕ → List ℕ → List ℕ → List (Rule Refusal)

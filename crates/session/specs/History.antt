@@ -1,15 +1,13 @@
 -- Histories (demand 3): any list of calls after a start, on the memory by the definitions that the contracts cite, and on a model that never
 -- looks at memory: a table, and places each free or holding a case.
-use Rattle.std.specs.Prelude.{ℕ, zero, suc, ◌+◌, ◌≤◌, ◌<◌, ◌≡◌, List, [], ◌∷◌, ◌++◌, Bool, true, false, cond, not, ◌&&◌, eqb, ltb, leb, length, get_or}
+use Rattle.std.specs.Prelude.{ℕ, zero, suc, ◌+◌, ◌≤◌, ◌<◌, ◌≡◌, List, [], ◌∷◌, ◌++◌, Bool, true, false, cond, not, ◌&&◌, eqb, ltb, leb, length, get_or, Result, Ok, Err}
 use Rattle.shapes.specs.First.{first}
 use Rattle.machine.specs.Cell.{SameCells}
 use Rattle.machine.specs.Case.{Case, good_case, all_good}
 use Rattle.machine.specs.declared.head.Head.{Head}
+use Rattle.house.specs.declared.refusal.Refusal.{Refusal}
 use Rattle.house.specs.Table.{table_read, head_in, cells_in}
 use Rattle.house.specs.Cases.{record_read, cases_in}
-use Rattle.house.specs.declared.refusal.Answer as Answer_type
-use Rattle.house.specs.declared.table.TableFile as TableFile_type
-use Rattle.house.specs.declared.cases.RecordFile as RecordFile_type
 use Rattle.memory.specs.Layout.{places_most, head_of, cells_of, is_held, case_of}
 use Rattle.memory.specs.Form.{Formed}
 use Rattle.tallies.specs.Tallies.{TrueTallies}
@@ -28,7 +26,7 @@ pub data Memory : Type 0 where
   memory : List ℕ → List ℕ → Memory
 
 -- what an outcome answers, and the memory that it leaves
-abbrev pub answer_of : Outcome → Answer_type.Answer
+abbrev pub answer_of : Outcome → Result ℕ Refusal
 answer_of (after a s t) = a
 
 abbrev pub left : Outcome → Memory
@@ -43,7 +41,7 @@ outcome_of (withdraw p) (memory s t) = withdraw_call s t p
 outcome_of (load file) (memory s t) = load_call s t file
 
 -- what it answers, and what it leaves of the memory
-unfoldable pub answered : Call → Memory → Answer_type.Answer
+unfoldable pub answered : Call → Memory → Result ℕ Refusal
 unfolding outcome_of
 answered c x = answer_of (outcome_of c x)
 
@@ -105,13 +103,13 @@ unfoldable pub started_model : List ℕ → Model
 started_model file = record { head = head_in file; cells = cells_in file; at = λ p. free }
 
 -- whether a file was read as a table, or as a record
-abbrev pub is_table : TableFile_type.TableFile → Bool
-is_table (TableFile_type.TheVariants.Table h) = true
-is_table (TableFile_type.TheVariants.Refused r) = false
+abbrev pub is_table : Result Head Refusal → Bool
+is_table (Ok h) = true
+is_table (Err r) = false
 
-abbrev pub is_record : RecordFile_type.RecordFile → Bool
-is_record (RecordFile_type.TheVariants.Record n) = true
-is_record (RecordFile_type.TheVariants.Refused r) = false
+abbrev pub is_record : Result ℕ Refusal → Bool
+is_record (Ok n) = true
+is_record (Err r) = false
 
 -- whether a case can be run against the model's table, and whether a number is that of a place that holds one
 abbrev pub fits_table : Model → Case → Bool
@@ -153,10 +151,10 @@ unfoldable pub steps : List Call → Model → Model
 steps [] m = m
 steps (c ∷ cs) m = steps cs (step c m)
 
--- the same by the answers: an accepted call is one that answered Done, and no other changes what is held
-abbrev pub accepted : Answer_type.Answer → Call → Model → Model
-accepted (Answer_type.TheVariants.Done n) c m = makes c m
-accepted (Answer_type.TheVariants.Refused r) c m = m
+-- the same by the answers: an accepted call is one that answered Ok, and no other changes what is held
+abbrev pub accepted : Result ℕ Refusal → Call → Model → Model
+accepted (Ok n) c m = makes c m
+accepted (Err r) c m = m
 
 -- what the accepted ones of some calls on a memory leave
 unfoldable pub accepted_all : List Call → Memory → Model → Model

@@ -1,35 +1,15 @@
--- What `first` finds, and how a loop that goes up by one finds it. Each by induction on the places left.
+-- What `first` finds. Each by induction on the places left.
 -- Assumes nothing.
-use Prim.Native.Nat.{ℕ, zero, suc, ◌+◌, ◌-◌, ◌≤◌, ◌<◌}
+use Prim.Native.Nat.{ℕ, zero, suc, ◌+◌, ◌≤◌, ◌<◌}
 use mathlib.Core.Path.{◌≡◌, refl, sym, ap, ◌∙◌}
 use mathlib.Core.Bool.{Bool, true, false, cond, not, true≢false}
-use native.Mathlib.Numerals.{add-one}
 use mathlib.Core.Logic.{◌⊎◌, inl, inr}
 use native.Mathlib.Nat.{eq-or-lt_of_le}
 use native.Mathlib.Omega.{arith}
 use borrow.Author.Tests.{eq-eqb, ne_eqb, eqb-true, not-false}
 use Rattle.shapes.specs.First.{first, all_to}
 
--- the places from `at` to below `n` are one more than those from the next place on
-left_one : (at n : ℕ) → at < n → n - at ≡ suc (n - (at + 1))
-left_one at n h = omega arith
-
 module _ (p : ℕ → Bool) where
-  -- a loop's turn: where the test fails, the first place is looked for from the next place on
-  pub first_turn : (at n : ℕ) → at < n → p at ≡ false → first p at (n - at) ≡ first p (at + 1) (n - (at + 1))
-  unfolding first
-  first_turn at n h e = rw (left_one at n h, e, add-one)
-
-  -- a loop's way out in the middle: the test holds here
-  pub first_found : (at n : ℕ) → at < n → p at ≡ true → first p at (n - at) ≡ at
-  unfolding first
-  first_found at n h e = rw (left_one at n h, e)
-
-  -- a loop's end: no place is left
-  pub first_ended : (at n : ℕ) → n ≤ at → first p at (n - at) ≡ at
-  unfolding first
-  first_ended at n h = let e : n - at ≡ 0 = omega arith in rw e
-
   -- it lies among the places looked at, or right after them
   pub first_low : (at left : ℕ) → at ≤ first p at left
   unfolding first

@@ -1,6 +1,9 @@
 pub mod Tests
 pub mod First
+pub mod Found
+pub mod Ranges
 pub mod Keep
 pub mod Edit
+pub mod Parts
 pub mod Refusals
 pub mod Answers

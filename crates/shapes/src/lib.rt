@@ -12,7 +12,7 @@ pub fn byte(s: &[u8], at: usize) -> usize
     ensures value { result ≡ get_or s.now at 0 }
     ensures upper_bound { result < 256 }
 {
-    s[at] as usize
+    usize::from(s[at])
 }
 
 // Copies the bytes of a slice into another, from a place on.
@@ -20,9 +20,5 @@ pub fn put(out: &mut [u8], at: usize, from: &[u8])
     requires { at + length from.now ≤ length out.old }
     ensures { out.new ≡ filled out.old at from.now }
 {
-    let mut i = 0;
-    while i < from.len() {
-        out[at + i] = from[i];
-        i += 1;
-    }
+    out[at..at + from.len()].copy_from_slice(from);
 }

@@ -1,44 +1,77 @@
--- What a tally loop's turn and end say of the definition that it makes. Assumes nothing.
-use Prim.Native.Nat.{ℕ}
-use mathlib.Core.Path.{◌≡◌, ap, ◌∙◌}
+-- What counting a run's case in or out says of the session on whose table it is run; and what a loop over the tallies reads. Assumes nothing.
+use Prim.Native.Nat.{ℕ, ◌≤◌}
+use mathlib.Core.Path.{◌≡◌, refl, ap}
+use mathlib.Core.Bool.{Bool, true, false}
 use mathlib.Core.List.{List}
-use mathlib.Core.Bool.{Bool}
 use native.Mathlib.Omega.{arith}
 use lib.ListN.{get_or}
+use mir.Val.{bool_byte}
 use Rattle.shapes.specs.Edit.{edit}
+use Rattle.shapes.specs.First.{all_to}
 use Rattle.shapes.specs.Keep.{bit}
+use Rattle.shapes.proofs.First.{all_same}
 use Rattle.shapes.proofs.Edit.{edit_out_above}
 use Rattle.machine.specs.Head.{numbers}
 use Rattle.machine.specs.Case.{Case}
-use Rattle.machine.specs.declared.head.Head.{Head}
+use Rattle.machine.specs.Runs.{Bench, bench_of, run_case}
+use Rattle.machine.specs.declared.replay.Run.{Run}
 use Rattle.diagnosis.specs.Diagnosis.{misses}
 use Rattle.memory.specs.Layout.{head_of, cells_of}
-use Rattle.tallies.specs.Tallies.{miss, can_lose_by}
-
-module _ (s : List ℕ) (h : Head) (same : h ≡ head_of s) where
-  -- the count that the head read gives is that of the numbers in use
-  pub count_told : (count : ℕ) → count ≡ numbers h → count ≡ numbers (head_of s)
-  count_told count e = rw same at e
-
-  -- what the head read says of a case the session says
-  pub miss_told : (c : Case) (f r : ℕ) → r ≡ bit (misses h (cells_of s) f c) → r ≡ miss s c f
-  unfolding miss
-  miss_told c f r e = e ∙ ap (λ (x : Head). bit (misses x (cells_of s) f c)) same
-
-  -- a loop's end: every tally in use is changed
-  pub all_told : (g : ℕ → ℕ → ℕ) (count n : ℕ) (t t₀ : List ℕ) → count ≡ numbers h → n ≡ count → t ≡ edit g 0 n t₀
-      → t ≡ edit g 0 (numbers (head_of s)) t₀
-  all_told g count n t t₀ e d i = rw (d, count_told count e) at i
+use Rattle.tallies.specs.Tallies.{can_lose_by, miss, miss_by, can_lower, can_lower_by, raised, raised_by, lowered, lowered_by}
 
 -- the tally that a loop reads is still the old one
 pub tally_next : (g : ℕ → ℕ → ℕ) (n : ℕ) (t t₀ : List ℕ) → t ≡ edit g 0 n t₀ → get_or t n 0 ≡ get_or t₀ n 0
 tally_next g n t t₀ e = rw e (edit_out_above g 0 n t₀ n (omega arith))
 
--- one tally can lose a case: it does not go below 0, nor stay above the cases left
-abbrev pub can_lose : List ℕ → Case → List ℕ → ℕ → ℕ → Bool
-can_lose s c t left f = can_lose_by (miss s c f) (get_or t f 0) left
+-- what a walk of a run says of a number, as a number, is what the run adds to its tally
+pub missed_by : (r q : Run) (f x : ℕ) (m : Bool) → q ≡ r → m ≡ misses q.table.head q.table.cells.now f (run_case q) → x ≡ bool_byte m → x ≡ miss_by (bench_of r) f
+unfolding miss_by
+missed_by r q f x m same em ex = rw (← same, ← em, ex) (go m)
+  where
+    go : (b : Bool) → bool_byte b ≡ bit b
+    go true = refl
+    go false = refl
 
--- what is told of a miss is told of the tally that is to lose it
-pub lose_told : (s : List ℕ) (c : Case) (t : List ℕ) (left f r : ℕ) {b : Bool} → r ≡ miss s c f → b ≡ can_lose_by r (get_or t f 0) left
-    → b ≡ can_lose s c t left f
-lose_told s c t left f r e d = rw (← e) d
+-- which is 1 at most
+pub few_by : (b : Bench) (f : ℕ) → miss_by b f ≤ 1
+unfolding miss_by
+few_by b f = go (misses b.head b.cells f b.case)
+  where
+    go : (x : Bool) → bit x ≤ 1
+    go true = omega arith
+    go false = omega arith
+
+-- one tally can lose a run's case, by what a walk of the run says: it does not go below 0, nor stay above the cases left
+abbrev pub can_lose : Run → List ℕ → ℕ → ℕ → Bool
+can_lose q t left f = can_lose_by (bool_byte (misses q.table.head q.table.cells.now f (run_case q))) (get_or t f 0) left
+
+-- and so can every tally in use
+pub can_told : (r q : Run) (t : List ℕ) (left count : ℕ) → q ≡ r → count ≡ numbers r.table.head → all_to (can_lose q t left) count ≡ can_lower_by (bench_of r) t left
+unfolding can_lower_by
+can_told r q t left count same e =
+    rw (e, same)
+    (all_same _ _ (numbers r.table.head) (λ f l. ap (λ n. can_lose_by n (get_or t f 0) left) (missed_by r r f _ _ refl refl refl)))
+
+-- a case on a session's table
+abbrev pub on_table : List ℕ → Case → Bench
+on_table s c = record { head = head_of s; cells = cells_of s; case = c }
+
+module _ (s : List ℕ) (c : Case) (b : Bench) (e : b ≡ on_table s c) where
+  -- a run of it misses it as the session's number does,
+  pub miss_on : (f : ℕ) → miss_by b f ≡ miss s c f
+  unfolding miss miss_by
+  miss_on f = rw e
+
+  -- can be counted out as it can,
+  pub can_lower_on : (t : List ℕ) (left : ℕ) → can_lower_by b t left ≡ can_lower s t c left
+  unfolding can_lower can_lower_by miss miss_by
+  can_lower_on t left = rw e
+
+  -- and is counted in and out as it is
+  pub raised_on : (t : List ℕ) → raised_by b t ≡ raised s c t
+  unfolding raised raised_by miss miss_by
+  raised_on t = rw e
+
+  pub lowered_on : (t : List ℕ) → lowered_by b t ≡ lowered s c t
+  unfolding lowered lowered_by miss miss_by
+  lowered_on t = rw e

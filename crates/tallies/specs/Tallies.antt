@@ -3,6 +3,7 @@ use Rattle.std.specs.Prelude.{ℕ, ◌+◌, ◌-◌, ◌<◌, ◌≡◌, List, B
 use Rattle.shapes.specs.First.{all_to}
 use Rattle.machine.specs.Head.{numbers}
 use Rattle.machine.specs.Case.{Case}
+use Rattle.machine.specs.Runs.{Bench}
 use Rattle.diagnosis.specs.Diagnosis.{tally, misses}
 use Rattle.memory.specs.Layout.{head_of, cells_of, case_of, cases}
 use Rattle.shapes.specs.Edit.{edit}
@@ -16,11 +17,18 @@ TrueTallies s t = (f : ℕ) → f < numbers (head_of s) → get_or t f 0 ≡ tal
 unfoldable pub miss : List ℕ → Case → ℕ → ℕ
 miss s c f = bit (misses (head_of s) (cells_of s) f c)
 
+-- and on a table that is no session's yet
+unfoldable pub miss_by : Bench → ℕ → ℕ
+miss_by b f = bit (misses b.head b.cells f b.case)
+
 -- a tally can lose so much: not "below 0", nor left "above the count of the cases then left"
 abbrev pub can_lose_by : ℕ → ℕ → ℕ → Bool
 can_lose_by less old left = leb less old && leb (old - less) left
 
 -- so each tally in use can lose a case, with so many cases then left
+unfoldable pub can_lower_by : Bench → List ℕ → ℕ → Bool
+can_lower_by b t left = all_to (λ f. can_lose_by (miss_by b f) (get_or t f 0) left) (numbers b.head)
+
 unfoldable pub can_lower : List ℕ → List ℕ → Case → ℕ → Bool
 can_lower s t c left = all_to (λ f. can_lose_by (miss s c f) (get_or t f 0) left) (numbers (head_of s))
 
@@ -35,3 +43,9 @@ raised s c t = edit (λ f old. old + miss s c f) 0 (numbers (head_of s)) t
 
 unfoldable pub lowered : List ℕ → Case → List ℕ → List ℕ
 lowered s c t = edit (λ f old. old - miss s c f) 0 (numbers (head_of s)) t
+
+unfoldable pub raised_by : Bench → List ℕ → List ℕ
+raised_by b t = edit (λ f old. old + miss_by b f) 0 (numbers b.head) t
+
+unfoldable pub lowered_by : Bench → List ℕ → List ℕ
+lowered_by b t = edit (λ f old. old - miss_by b f) 0 (numbers b.head) t

@@ -7,8 +7,8 @@ use Rattle.diagnosis.proofs.conflict.Goals as goal
 pub returns-then-not-is_failing : goal.returns-then-not-is_failing
 returns-then-not-is_failing c = c.fill.ensures ∙ conflict_none _ _ _ (lacks c.is_failing.ensures c.if-not-is_failing.true)
 
-pub narrow-requires-clause-bits : goal.narrow-requires-clause-bits
-narrow-requires-clause-bits c = ones_bits _ _ c.requires.cells_most_in_bounds c.fill-2.ensures
+pub narrow-requires : goal.narrow-requires
+narrow-requires c = ones_bits _ _ c.requires c.fill-2.ensures
 
 pub returns : goal.returns
-returns c = c.narrow.ensures ∙ conflict_of_ones _ _ _ _ c.requires.cells_most_in_bounds c.fill-2.ensures (holds c.is_failing.ensures c.if-not-is_failing.false)
+returns c = c.narrow.ensures ∙ conflict_of_ones _ _ _ _ c.requires c.fill-2.ensures (holds c.is_failing.ensures c.if-not-is_failing.false)

@@ -1,11 +1,7 @@
-use mathlib.Core.Path.{sym}
-use native.Mathlib.Nat.{zero-add}
-use native.Mathlib.Omega.{arith}
-use Rattle.shapes.proofs.Edit.{edit_none, edit_more}
+-- `diagnosis::fill` meets its contract: the part filled, with the rest after it, is the buffer with one value at all its cells.
+use Rattle.std.proofs.Common.{rules}
+use Rattle.diagnosis.proofs.Parts.{part_spread}
 use Rattle.diagnosis.proofs.fill.Goals as goal
 
-pub loop-cell-init : goal.loop-cell-init
-loop-cell-init c = (omega arith, sym (edit_none _ _ _))
-
-pub loop-cell-preserved : goal.loop-cell-preserved
-loop-cell-preserved c = (omega arith, rw (edit_more, zero-add, ← c.loop-cell.invariant.1))
+pub returns : goal.returns
+returns c = part_spread _ c.requires _ (c.fill.ensures.after (λ y e. search rules))

@@ -1,7 +1,10 @@
--- `judge::judge` meets its contract: the table that was matched is what was read, and a refusal of it is the answer.
-use mathlib.Core.Path.{sym, ◌∙◌}
-use Rattle.judge.proofs.Judged.{judged_table}
+-- `judge::judge` meets its contract: what was found, as a number.
+use mathlib.Core.Path.{◌∙◌}
+use Rattle.judge.proofs.Judged.{judged_done, judged_refused}
 use Rattle.judge.proofs.judge.Goals as goal
 
-pub returns-in-Refused : goal.returns-in-Refused
-returns-in-Refused c = c.refused.ensures ∙ sym (judged_table _ _ _ _ (sym c.read_table-read.ensures ∙ c.in-Refused.is))
+pub returns-in-Ok : goal.returns-in-Ok
+returns-in-Ok c = c.from.ensures ∙ judged_done _ _ _ _ c.judgement_of.ensures _ c.in-Ok.is
+
+pub returns-in-Err : goal.returns-in-Err
+returns-in-Err c = rw c.number.ensures (judged_refused _ _ _ _ c.judgement_of.ensures _ c.in-Err.is)

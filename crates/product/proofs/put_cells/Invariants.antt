@@ -1,11 +1,8 @@
--- `product::put_cells` meets its contract. The loop's invariant: the numbers of the cells passed are written. The measure is the cells left.
-use Prim.Native.Nat.{◌≤◌, ◌*◌, ◌-◌}
+-- `product::put_cells` meets its contract. The loop's invariant: the numbers of the cells passed are written.
+use Prim.Native.Nat.{◌*◌}
 use mathlib.Core.Path.{◌≡◌}
 use Rattle.product.proofs.Entries.{put_to}
 use Rattle.product.proofs.put_cells.Given as goal
 
 abbrev pub invariant-loop-cell : goal.invariant-loop-cell
-invariant-loop-cell l = (l.cell ≤ l.count) × (l.out ≡ put_to l.product (2 * l.cell) l.fn.out)
-
-abbrev pub decreases-loop-cell : goal.decreases-loop-cell
-decreases-loop-cell l = l.count - l.cell
+invariant-loop-cell l = l.out ≡ put_to l.product (2 * l.cell) l.fn.out

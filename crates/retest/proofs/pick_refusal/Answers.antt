@@ -1,11 +1,10 @@
--- `retest::pick_refusal` meets its contract: the number is that of what the check found.
+-- `retest::pick_refusal` meets its contract: the number is that of the refusal, and 0 where a case is picked.
 use mathlib.Core.Path.{sym, ◌∙◌}
-use Rattle.house.proofs.Forms.{checked_fine, checked_refused}
-use Rattle.retest.proofs.Retests.{number_refused, number_fine}
+use Rattle.retest.proofs.Retests.{picks_fine, picks_refused, number_refused, number_fine}
 use Rattle.retest.proofs.pick_refusal.Goals as goal
 
-pub returns-in-Refused : goal.returns-in-Refused
-returns-in-Refused c = c.number.ensures ∙ sym (number_refused _ _ _ (checked_refused _ (sym c.check_retest-found.ensures ∙ c.in-Refused.is)))
+pub returns-in-Ok : goal.returns-in-Ok
+returns-in-Ok c = sym (number_fine _ _ _ (picks_fine _ _ _ _ _ _ _ c.picked.ensures c.in-Ok.is))
 
-pub returns-in-Fine : goal.returns-in-Fine
-returns-in-Fine c = sym (number_fine _ _ _ (checked_fine _ (sym c.check_retest-found.ensures ∙ c.in-Fine.is)))
+pub returns-in-Err : goal.returns-in-Err
+returns-in-Err c = c.number.ensures ∙ sym (number_refused _ _ _ (picks_refused _ _ _ _ _ _ _ c.picked.ensures c.in-Err.is))

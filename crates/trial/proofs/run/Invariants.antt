@@ -1,6 +1,9 @@
--- Less is left of the script at each turn: an operation that does not go on ends the run.
-use Rattle.std.proofs.Common.{length, ◌-◌}
+-- What is left of the script is no more than all of it, and less after each operation.
+use Rattle.std.proofs.Common.{length, ◌≤◌}
 use Rattle.trial.proofs.run.Given as goal
 
-abbrev pub decreases-loop-at : goal.decreases-loop-at
-decreases-loop-at g l = length l.script - l.at
+abbrev pub invariant-loop-script : goal.invariant-loop-script
+invariant-loop-script g l = length l.script.rest.now ≤ length l.bytes
+
+abbrev pub decreases-loop-script : goal.decreases-loop-script
+decreases-loop-script g l = length l.script.rest.now

@@ -1,20 +1,11 @@
-use mathlib.Core.Path.{sym, ◌∙◌}
-use native.Mathlib.Nat.{sub-zero}
-use native.Mathlib.Omega.{arith}
-use Rattle.shapes.proofs.First.{first_turn, first_found, first_ended}
-use Rattle.shapes.proofs.Tests.{holds, lacks}
-use Rattle.machine.specs.Case.{first_bad_step}
+-- `machine::case::first_bad_step` meets its contract: the search ends with the first step that is bad.
+use Rattle.std.proofs.Common.{rules, ◌≡◌, true, false}
+use Rattle.std.proofs.lemmas.Iterator.{first_from_Range}
+use Rattle.shapes.proofs.Found.{found_first}
+use Rattle.machine.specs.Case.{bad_step, first_bad_step}
 use Rattle.machine.proofs.case.first_bad_step.Goals as goal
 
-pub loop-step-init : goal.loop-step-init
-unfolding first_bad_step
-loop-step-init c = (omega arith, rw sub-zero)
-
-pub returns-then-is_bad_step : goal.returns-then-is_bad_step
-returns-then-is_bad_step c = sym (first_found _ _ _ (omega arith) (holds c.is_bad_step.ensures c.if-is_bad_step.true)) ∙ c.loop-step.invariant.1
-
-pub loop-step-preserved : goal.loop-step-preserved
-loop-step-preserved c = (omega arith, sym (first_turn _ _ _ (omega arith) (lacks c.is_bad_step.ensures c.if-is_bad_step.false)) ∙ c.loop-step.invariant.1)
-
 pub returns : goal.returns
-returns c = sym (first_ended _ _ _ (omega arith)) ∙ c.loop-step.invariant.1
+unfolding first_bad_step
+returns c = let bad : _ = bad_step c.args.head c.args.inputs.now c.args.outputs.now in
+    found_first bad _ _ (first_from_Range _ _ _ _ (λ i. bad i ≡ true) (λ i. bad i ≡ false) c.find.ensures.ran (λ x q k. search rules) (λ x q k. search rules))

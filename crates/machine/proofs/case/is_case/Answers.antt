@@ -1,17 +1,12 @@
--- `machine::case::is_case` meets its contract: at each `return` the tests that led there say what `good_case` is.
-use borrow.Author.Tests.{eq-eqb, ne_eqb}
-use Rattle.shapes.proofs.Tests.{lacks, holds}
-use Rattle.machine.specs.Case.{good_case}
+-- `machine::case::is_case` meets its contract: the tests are those of `good_case`.
+use mathlib.Core.Path.{sym, ap, ◌∙◌}
+use Rattle.std.proofs.Common.{rules}
+use borrow.Author.Tests.{eq-eqb}
+use Rattle.std.specs.Option.{is_none}
+use Rattle.shapes.proofs.Found.{found_none}
+use Rattle.machine.specs.Case.{good_case, first_bad_step, bad_step}
 use Rattle.machine.proofs.case.is_case.Goals as goal
 
-pub returns-then-not-is_within : goal.returns-then-not-is_within
-unfolding good_case
-returns-then-not-is_within c = rw (lacks c.is_within.ensures c.if-not-is_within.true)
-
-pub returns-then-outputs-steps : goal.returns-then-outputs-steps
-unfolding good_case
-returns-then-outputs-steps c = rw (holds c.is_within.ensures c.if-not-is_within.false, ne_eqb _ _ c.if-outputs-steps.true)
-
-pub returns : goal.returns
-unfolding good_case
-returns c = rw (holds c.is_within.ensures c.if-not-is_within.false, eq-eqb _ _ c.if-outputs-steps.false, c.first_bad_step.ensures)
+pub returns-then-outputs-inputs : goal.returns-then-outputs-inputs
+unfolding good_case first_bad_step
+returns-then-outputs-inputs c = let w = sym c.is_within.ensures ∙ c.if-outputs-inputs.true.0 in rw (w, eq-eqb _ _ c.if-outputs-inputs.true.1) (search rules ∙ ap is_none c.first_bad_step.ensures ∙ found_none (bad_step c.args.head c.args.inputs.now c.args.outputs.now) _)

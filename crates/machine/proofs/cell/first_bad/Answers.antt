@@ -1,20 +1,11 @@
-use mathlib.Core.Path.{sym, ◌∙◌}
-use native.Mathlib.Nat.{sub-zero}
-use native.Mathlib.Omega.{arith}
-use Rattle.shapes.proofs.First.{first_turn, first_found, first_ended}
-use Rattle.shapes.proofs.Tests.{holds, lacks}
-use Rattle.machine.specs.Cell.{first_bad}
+-- `machine::cell::first_bad` meets its contract: the search ends with the first cell that is bad.
+use Rattle.std.proofs.Common.{rules, ◌≡◌, true, false}
+use Rattle.std.proofs.lemmas.Iterator.{first_from_Range}
+use Rattle.shapes.proofs.Found.{found_first}
+use Rattle.machine.specs.Cell.{bad_cell, first_bad, bad_in}
 use Rattle.machine.proofs.cell.first_bad.Goals as goal
 
-pub loop-cell-init : goal.loop-cell-init
-unfolding first_bad
-loop-cell-init c = (omega arith, c.cells-count.ensures.value, rw sub-zero)
-
-pub returns-then-is_bad : goal.returns-then-is_bad
-returns-then-is_bad c = sym (first_found _ _ _ (omega arith) (holds c.is_bad.ensures c.if-is_bad.true)) ∙ c.loop-cell.invariant.2
-
-pub loop-cell-preserved : goal.loop-cell-preserved
-loop-cell-preserved c = (omega arith, c.loop-cell.invariant.1, sym (first_turn _ _ _ (omega arith) (lacks c.is_bad.ensures c.if-is_bad.false)) ∙ c.loop-cell.invariant.2)
-
 pub returns : goal.returns
-returns c = sym (first_ended _ _ _ (omega arith)) ∙ c.loop-cell.invariant.2
+unfolding bad_in first_bad
+returns c = let bad : _ = bad_cell c.args.head c.args.cells.now in rw (← c.cells.ensures.value)
+    (found_first bad _ _ (first_from_Range _ _ _ _ (λ i. bad i ≡ true) (λ i. bad i ≡ false) c.find.ensures.ran (λ x q k. search rules) (λ x q k. search rules)))

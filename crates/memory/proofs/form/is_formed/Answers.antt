@@ -1,16 +1,12 @@
--- `memory::form::is_formed` meets its contract: at each `return` the tests that led there say what `well_formed` is.
-use Rattle.shapes.proofs.Tests.{lacks, holds}
+-- `memory::form::is_formed` meets its contract: the three tests are those of `well_formed`.
+use Rattle.std.proofs.Common.{rules}
 use Rattle.memory.specs.Form.{well_formed}
 use Rattle.memory.proofs.form.is_formed.Goals as goal
 
-pub returns-then-not-is_table : goal.returns-then-not-is_table
+pub returns-then-are_places : goal.returns-then-are_places
 unfolding well_formed
-returns-then-not-is_table c = rw (lacks c.is_table.ensures c.if-not-is_table.true)
+returns-then-are_places c = search rules
 
-pub returns-then-not-are_places : goal.returns-then-not-are_places
+pub returns-else-are_places : goal.returns-else-are_places
 unfolding well_formed
-returns-then-not-are_places c = rw (holds c.is_table.ensures c.if-not-is_table.false, lacks c.are_places.ensures c.if-not-are_places.true)
-
-pub returns : goal.returns
-unfolding well_formed
-returns c = rw (holds c.is_table.ensures c.if-not-is_table.false, holds c.are_places.ensures c.if-not-are_places.false) c.are_tallies.ensures
+returns-else-are_places c = search rules

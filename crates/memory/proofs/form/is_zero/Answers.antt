@@ -1,14 +1,9 @@
-use borrow.Author.Tests.{ne_eqb}
-use mathlib.Core.Path.{sym}
-use native.Mathlib.Omega.{arith}
-use Rattle.shapes.specs.First.{zeros}
-use Rattle.shapes.proofs.First.{all_from, all_fails}
+-- `memory::form::is_zero` meets its contract: the closure tests a byte.
+use Rattle.std.proofs.Common.{rules, tests, arith, ◌≡◌, ◌+◌, ◌-◌}
+use mathlib.Core.Logic.{◌≢◌}
+use Rattle.std.proofs.lemmas.Iterator.{cases_from_all, YieldsList-from_slice}
+use Rattle.shapes.proofs.Ranges.{zeros_part}
 use Rattle.memory.proofs.form.is_zero.Goals as goal
 
-pub returns-then-session-at-ne0 : goal.returns-then-session-at-ne0
-unfolding zeros
-returns-then-session-at-ne0 c = sym (all_fails _ _ _ c.loop-i-test.true (ne_eqb _ _ c.if-session-at-ne0.true))
-
 pub returns : goal.returns
-unfolding zeros
-returns c = sym (all_from _ _ (λ j l. c.loop-i.invariant.1 j (omega arith)))
+returns c = let e : c.args.at + c.args.count - c.args.at ≡ c.args.count = omega arith in zeros_part _ _ _ _ _ (rw e) (search rules) (cases_from_all _ _ _ (λ x. x ≡ 0) (λ x. x ≢ 0) c.all.ensures.ran (YieldsList-from_slice _ c.iter.ensures.rest) (λ x q k. search (rules, tests)) (λ x q k. search (rules, tests)))

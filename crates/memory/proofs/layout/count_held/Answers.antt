@@ -1,18 +1,11 @@
-use mathlib.Core.Bool.{not}
-use mathlib.Core.Path.{◌≡◌, refl}
-use native.Mathlib.Omega.{arith}
-use lib.Dec.{eqb}
-use Rattle.memory.specs.Layout.{places_most, held_to, cases}
-use Rattle.memory.proofs.Checks.{held_turn, byte_few, place_read}
+-- `memory::layout::count_held` meets its contract: the closure tests whether a place holds a case.
+use Rattle.std.proofs.Common.{rules, tests, ◌∙◌, refl}
+use Rattle.std.proofs.lemmas.Iterator.{YieldsList-from_range}
+use Rattle.std.proofs.lemmas.Iterator.Consumers.{YieldsList-from_filter, count_from_yields_List}
+use Rattle.memory.specs.Layout.{places_most, is_held, cases}
+use Rattle.memory.proofs.Checks.{held_listed}
 use Rattle.memory.proofs.layout.count_held.Goals as goal
-
-pub loop-place-init : goal.loop-place-init
-unfolding held_to
-loop-place-init c = (omega arith, refl, omega arith)
-
-pub loop-place-preserved : goal.loop-place-preserved
-loop-place-preserved c = (omega arith, held_turn c.args.session.now c.loop-place.place _ _ (place_read c.args.session.now c.loop-place.place c.of-here.ensures.value).1 c.loop-place.invariant.1, omega (arith, byte_few (not (eqb c.of-here.result.steps 0))))
 
 pub returns-clause-value : goal.returns-clause-value
 unfolding cases
-returns-clause-value c = let e : c.loop-place.place ≡ places_most = omega arith in rw e at c.loop-place.invariant.1
+returns-clause-value c = count_from_yields_List c.filter.result _ c.count.ensures.ran (YieldsList-from_filter _ (is_held c.args.session.now) (YieldsList-from_range 0 places_most places_most c.filter.ensures.source refl) c.filter.ensures.closure (λ x b q k. search (rules, tests))) ∙ held_listed _ places_most

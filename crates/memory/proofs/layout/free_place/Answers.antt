@@ -1,19 +1,14 @@
-use mathlib.Core.Path.{refl, sym, ◌∙◌}
-use native.Mathlib.Omega.{arith}
-use Rattle.shapes.proofs.First.{first_turn, first_found, first_ended}
-use Rattle.memory.specs.Layout.{free_place}
-use Rattle.memory.proofs.Checks.{free_here, held_here}
+-- `memory::layout::free_place` meets its contract: the search ends with the first place that is free.
+use Rattle.std.proofs.Common.{rules, tests, ℕ, Bool, ◌≡◌, true, false}
+use lib.Dec.{eqb}
+use Rattle.std.proofs.lemmas.Iterator.{first_from_Range}
+use Rattle.shapes.proofs.Found.{found_first}
+use Rattle.memory.specs.Layout.{steps_of}
+use Rattle.memory.proofs.Checks.{free_same}
 use Rattle.memory.proofs.layout.free_place.Goals as goal
 
-pub loop-place-init : goal.loop-place-init
-unfolding free_place
-loop-place-init c = (omega arith, refl)
-
-pub returns-then-here-eq0 : goal.returns-then-here-eq0
-returns-then-here-eq0 c = sym (first_found _ _ _ (omega arith) (free_here c.args.session.now _ c.of-here.ensures.value c.if-here-eq0.true)) ∙ c.loop-place.invariant.1
-
-pub loop-place-preserved : goal.loop-place-preserved
-loop-place-preserved c = (omega arith, sym (first_turn _ _ _ (omega arith) (held_here c.args.session.now _ c.of-here.ensures.value c.if-here-eq0.false)) ∙ c.loop-place.invariant.1)
-
 pub returns : goal.returns
-returns c = sym (first_ended _ _ _ (omega arith)) ∙ c.loop-place.invariant.1
+returns c =
+    let free : ℕ → Bool = λ p. eqb (steps_of c.args.session.now p) 0 in
+    rw (← free_same)
+    (found_first free _ _ (first_from_Range _ _ _ _ (λ p. free p ≡ true) (λ p. free p ≡ false) c.find.ensures.ran (λ x q k. search (rules, tests)) (λ x q k. search (rules, tests))))

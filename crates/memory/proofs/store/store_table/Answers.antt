@@ -7,11 +7,11 @@ use Rattle.memory.specs.Store.{started}
 use Rattle.memory.proofs.store.store_table.Goals as goal
 
 pub loop-i-init : goal.loop-i-init
-loop-i-init c = (omega arith, sym (edit_none _ _ _))
+loop-i-init c = sym (edit_none _ _ _)
 
 pub loop-i-preserved : goal.loop-i-preserved
-loop-i-preserved c = (omega arith, edit_turn _ _ _ _ _ _ _ c.loop-i.invariant.1 (sym (zero-add _)) c.byte_or_zero.ensures)
+loop-i-preserved c = edit_turn _ _ _ _ _ _ _ c.loop-i.invariant (sym (zero-add _)) c.byte_or_zero.ensures
 
 pub returns : goal.returns
 unfolding started
-returns c = let e : c.loop-i.i ≡ session_size = omega arith in rw (← e) c.loop-i.invariant.1
+returns c = let e : c.loop-i.i ≡ session_size = omega arith in rw (← e) c.loop-i.invariant

@@ -1,26 +1,18 @@
-use mathlib.Core.Path.{sym, ◌∙◌}
+-- `reading::audit::first_false` meets its contract: a search of the numbers in use finds the lowest whose tally is false, or there is none.
+use Rattle.std.proofs.Common.{rules}
+use Rattle.std.proofs.lemmas.Iterator.{serves_from_Range, first_from_Range}
+use borrow.Author.Tests.{tests}
+use mathlib.Core.Path.{ap, ◌∙◌}
 use native.Mathlib.Omega.{arith}
-use Rattle.shapes.proofs.First.{first_turn, first_found, first_ended}
-use Rattle.tallies.proofs.Tallying.{count_told}
-use Rattle.memory.proofs.Known.{session_table}
-use Rattle.reading.proofs.Listed.{false_begins, false_here, false_past}
-use Rattle.memory.proofs.Formed.{formed_table, formed_places}
+use Rattle.std.proofs.lemmas.List.{get_or_read}
+use Rattle.machine.specs.Head.{numbers}
+use Rattle.reading.proofs.Listed.{CountedAfresh, false_told}
 use Rattle.reading.proofs.audit.first_false.Goals as goal
 
-pub numbers-numbers-requires : goal.numbers-numbers-requires
-numbers-numbers-requires c = (session_table c.args.session.now c.head_of.ensures c.requires.session_room (formed_table _ _ c.requires)).head
-
-pub loop-number-init : goal.loop-number-init
-loop-number-init c = (omega arith, false_begins c.args.session.now c.args.tallies.now (count_told c.args.session.now _ c.head_of.ensures _ c.numbers-numbers.ensures.value))
-
-pub tally_afresh-requires-clause-session_value : goal.tally_afresh-requires-clause-session_value
-tally_afresh-requires-clause-session_value c = (formed_table _ _ c.requires, formed_places _ _ c.requires)
-
-pub returns-then-tally_afresh-tallies : goal.returns-then-tally_afresh-tallies
-returns-then-tally_afresh-tallies c = sym (first_found _ _ _ (omega arith) (false_here c.args.session.now c.args.tallies.now _ c.tally_afresh.ensures c.if-tally_afresh-tallies.true)) ∙ c.loop-number.invariant.1
-
-pub loop-number-preserved : goal.loop-number-preserved
-loop-number-preserved c = (omega arith, sym (first_turn _ _ _ (omega arith) (false_past c.args.session.now c.args.tallies.now _ c.tally_afresh.ensures c.if-tally_afresh-tallies.false)) ∙ c.loop-number.invariant.1)
+pub find-requires-clause-callable : goal.find-requires-clause-callable
+find-requires-clause-callable c = let all = c.numbers.ensures.value ∙ ap numbers c.table.ensures.head in serves_from_Range (λ x q k. search rules) (λ x low high. search rules)
 
 pub returns : goal.returns
-returns c = sym (first_ended _ _ _ (omega arith)) ∙ c.loop-number.invariant.1
+returns c =
+    false_told c.args.held.now.bytes.now c.args.tallies.now c.numbers.result (c.numbers.ensures.value ∙ ap numbers c.table.ensures.head) _
+    (first_from_Range _ _ _ _ (λ f. CountedAfresh c.args.held.now.bytes.now c.args.tallies.now f → ⊥) (CountedAfresh c.args.held.now.bytes.now c.args.tallies.now) c.find.ensures.ran (λ x q k. grind (arith, tests, get_or_read)) (λ x q k. (search rules, grind (arith, tests, get_or_read))))

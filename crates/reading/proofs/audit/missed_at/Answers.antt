@@ -1,27 +1,14 @@
--- `reading::audit::missed_at` meets its contract: the two parts of the session are the case of the place, and the answer is a number.
-use mathlib.Core.Path.{refl}
-use native.Mathlib.Omega.{arith}
-use Rattle.shapes.specs.Keep.{count}
-use Rattle.diagnosis.specs.Diagnosis.{tally}
-use Rattle.memory.proofs.Known.{case_runs, held_read, free_read, place_within, parts_case}
-use Rattle.reading.proofs.Listed.{missed_told}
+-- `reading::audit::missed_at` meets its contract: the run of the place is of its case, and the answer is a number.
+use mathlib.Core.Path.{sym, ◌∙◌}
+use Rattle.memory.proofs.Runs.{run_head}
+use Rattle.reading.proofs.Listed.{missed_told, free_missed}
 use Rattle.reading.proofs.audit.missed_at.Goals as goal
 
-pub returns-then-steps-eq0-clause-value : goal.returns-then-steps-eq0-clause-value
-unfolding tally count
-returns-then-steps-eq0-clause-value c = rw (free_read c.args.session.now c.args.place c.of-here.ensures.value c.if-steps-eq0.true) refl
+pub is_missed-requires : goal.is_missed-requires
+is_missed-requires c = rw (run_head c.args.held.now.bytes.now c.args.place _ c.run_at.ensures c.in-Some.is) c.requires.number_bound
 
-pub slice_bounds-is_missed-end-2 : goal.slice_bounds-is_missed-end-2
-slice_bounds-is_missed-end-2 c = omega (arith, place_within c.args.session.now c.args.place c.of-here.ensures.value c.requires.session_value.1)
+pub returns-in-Some-clause-value : goal.returns-in-Some-clause-value
+returns-in-Some-clause-value c = c.from.ensures ∙ (missed_told c.args.held.now.bytes.now c.args.place _ c.run_at.ensures c.args.number c.in-Some.is c.is_missed.ensures).0
 
-pub slice_bounds-is_missed-end-3 : goal.slice_bounds-is_missed-end-3
-slice_bounds-is_missed-end-3 c = omega (arith, place_within c.args.session.now c.args.place c.of-here.ensures.value c.requires.session_value.1)
-
-pub is_missed-requires-clause-table_in : goal.is_missed-requires-clause-table_in
-is_missed-requires-clause-table_in c = let k = case_runs c.args.session.now c.args.place c.requires.session_size_in_bounds.0 c.requires.session_value.0 c.requires.session_value.1 (held_read c.args.session.now c.args.place c.of-here.ensures.value c.if-steps-eq0.false) c.head_of.ensures (parts_case c.args.session.now c.args.place c.of-here.ensures.value) in k.0
-
-pub is_missed-requires-clause-case_in : goal.is_missed-requires-clause-case_in
-is_missed-requires-clause-case_in c = let k = case_runs c.args.session.now c.args.place c.requires.session_size_in_bounds.0 c.requires.session_value.0 c.requires.session_value.1 (held_read c.args.session.now c.args.place c.of-here.ensures.value c.if-steps-eq0.false) c.head_of.ensures (parts_case c.args.session.now c.args.place c.of-here.ensures.value) in k.1
-
-pub returns-clause-value : goal.returns-clause-value
-returns-clause-value c = (missed_told c.args.session.now c.args.place c.of-here.ensures.value c.head_of.ensures c.args.number c.is_missed.ensures (held_read c.args.session.now c.args.place c.of-here.ensures.value c.if-steps-eq0.false)).0
+pub returns-in-None-clause-value : goal.returns-in-None-clause-value
+returns-in-None-clause-value c = sym (free_missed c.args.held.now.bytes.now c.args.place _ c.run_at.ensures c.args.number c.in-None.is)

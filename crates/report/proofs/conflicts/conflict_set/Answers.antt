@@ -1,39 +1,27 @@
--- `report::conflicts::conflict_set` meets its contract: what the place's check refuses, then SHORT, and else the conflict set of the two parts
--- that are the place's case.
-use Rattle.memory.proofs.Known.{told_fine, rules_slot, parts_case, slot_room, slot_ends, slot_runs}
-use Rattle.report.proofs.Saved.{conflict_refused, conflict_short, conflict_written}
+-- `report::conflicts::conflict_set` meets its contract: what the place's rules refuse, then SHORT, and else the conflict set of the place's run.
+use mathlib.Core.Path.{ap, ◌∙◌}
 use native.Mathlib.Omega.{arith}
+use Rattle.house.specs.Refusal.{wrote}
+use Rattle.house.proofs.Forms.{passed_on}
+use Rattle.memory.proofs.Formed.{formed_held}
+use Rattle.memory.proofs.Known.{told_fine, told_refused, rules_formed}
+use Rattle.memory.proofs.Runs.{slot_by_form, slot_ruled, slot_fine, slot_taken}
+use Rattle.report.proofs.Saved.{conflict_refused, conflict_short, conflict_written}
 use Rattle.report.proofs.conflicts.conflict_set.Goals as goal
 
-pub returns-in-Refused : goal.returns-in-Refused
-returns-in-Refused c = conflict_refused _ _ _ c.check_slot-found.ensures _ c.in-Refused.is
+pub returns-in_err-check_form : goal.returns-in_err-check_form
+returns-in_err-check_form c =
+    ap (λ r. wrote r c.args.out.now) (passed_on c.from_residual.result c.from_residual.ensures.1) ∙ conflict_refused _ _ _ _ (slot_by_form _ _ _ (told_refused _ c.check_form.ensures c.in_err-check_form.was))
+
+pub invariant_of-slot : goal.invariant_of-slot
+invariant_of-slot c = record { known = formed_held _ _ (rules_formed _ _ (told_fine _ c.check_form.ensures c.in_ok-check_form.was)) }
+
+pub returns-in_err-run : goal.returns-in_err-run
+returns-in_err-run c =
+    ap (λ r. wrote r c.args.out.now) (passed_on c.from_residual-in_err-run.result c.from_residual-in_err-run.ensures.1) ∙ conflict_refused _ _ _ _ (slot_ruled c.args.session.now c.args.tallies.now c.args.place (told_fine _ c.check_form.ensures c.in_ok-check_form.was) _ c.slot.ensures c.in_err-run.was)
 
 pub returns-then-out-lt-CELLS : goal.returns-then-out-lt-CELLS
-returns-then-out-lt-CELLS c = conflict_short _ _ _ c.check_slot-found.ensures c.in_default.is _ c.if-out-lt-CELLS.true
-
-pub of-here-requires-clause-session_size_in_bounds : goal.of-here-requires-clause-session_size_in_bounds
-of-here-requires-clause-session_size_in_bounds c = (slot_room _ _ _ (rules_slot _ _ _ (told_fine _ c.check_slot-found.ensures c.in_default.is))).0
-
-pub of-here-requires-clause-place_lt_places_most : goal.of-here-requires-clause-place_lt_places_most
-of-here-requires-clause-place_lt_places_most c = (slot_room _ _ _ (rules_slot _ _ _ (told_fine _ c.check_slot-found.ensures c.in_default.is))).1
-
-pub head_of-requires : goal.head_of-requires
-head_of-requires c = (slot_room _ _ _ (rules_slot _ _ _ (told_fine _ c.check_slot-found.ensures c.in_default.is))).0
-
-pub slice_bounds-conflict-end : goal.slice_bounds-conflict-end
-slice_bounds-conflict-end c = omega (arith, slot_ends _ _ _ (rules_slot _ _ _ (told_fine _ c.check_slot-found.ensures c.in_default.is)) c.of-here.ensures.value)
-
-pub slice_bounds-conflict-end-2 : goal.slice_bounds-conflict-end-2
-slice_bounds-conflict-end-2 c = omega (arith, slot_ends _ _ _ (rules_slot _ _ _ (told_fine _ c.check_slot-found.ensures c.in_default.is)) c.of-here.ensures.value)
-
-pub slice_bounds-conflict-end-3 : goal.slice_bounds-conflict-end-3
-slice_bounds-conflict-end-3 c = omega (arith, slot_ends _ _ _ (rules_slot _ _ _ (told_fine _ c.check_slot-found.ensures c.in_default.is)) c.of-here.ensures.value)
-
-pub conflict-requires-clause-table_in : goal.conflict-requires-clause-table_in
-conflict-requires-clause-table_in c = let a = slot_runs _ _ _ (rules_slot _ _ _ (told_fine _ c.check_slot-found.ensures c.in_default.is)) c.head_of.ensures (parts_case _ _ c.of-here.ensures.value) in a.0
-
-pub conflict-requires-clause-case_in : goal.conflict-requires-clause-case_in
-conflict-requires-clause-case_in c = let a = slot_runs _ _ _ (rules_slot _ _ _ (told_fine _ c.check_slot-found.ensures c.in_default.is)) c.head_of.ensures (parts_case _ _ c.of-here.ensures.value) in a.1
+returns-then-out-lt-CELLS c = conflict_short c.args.session.now c.args.tallies.now c.args.place (slot_fine c.args.session.now c.args.tallies.now c.args.place (told_fine _ c.check_form.ensures c.in_ok-check_form.was) _ c.slot.ensures c.in_ok-run.was) _ c.if-out-lt-CELLS.true
 
 pub returns : goal.returns
-returns c = conflict_written _ _ _ c.check_slot-found.ensures c.in_default.is _ _ (omega arith) c.head_of.ensures (parts_case _ _ c.of-here.ensures.value) c.conflict.ensures
+returns c = conflict_written c.args.session.now c.args.tallies.now c.args.place (slot_fine c.args.session.now c.args.tallies.now c.args.place (told_fine _ c.check_form.ensures c.in_ok-check_form.was) _ c.slot.ensures c.in_ok-run.was) _ (slot_taken c.args.session.now c.args.place _ c.slot.ensures c.in_ok-run.was).1 _ _ (omega arith) c.conflict.ensures

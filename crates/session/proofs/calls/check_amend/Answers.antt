@@ -1,35 +1,61 @@
 -- `session::calls::check_amend` meets its contract: the place's refusals first, then the new case's, then whether the old one can be taken away.
 use mathlib.Core.Path.{sym, ap, ◌∙◌}
 use mathlib.Core.Bool.{not}
-use Rattle.shapes.proofs.Refusals.{ruling_here, ruling_past, ruling_end}
+use Rattle.shapes.proofs.Refusals.{ruling_join_refused, ruling_join_fine, ruling_here, ruling_past, ruling_end}
 use Rattle.shapes.proofs.Tests.{lacks, holds}
 use Rattle.house.specs.Refusal.{checked}
+use Rattle.house.proofs.Forms.{passed_on}
+use Rattle.machine.specs.Runs.{Bench}
 use Rattle.session.specs.Calls.{amend_rules}
-use Rattle.memory.proofs.Known.{told_fine, rules_slot, part_fine, part_refused}
-use Rattle.session.proofs.Refused.{case_told}
+use Rattle.memory.proofs.Formed.{formed_held}
+use Rattle.memory.proofs.Known.{told_fine, told_refused, rules_formed, part_fine, part_refused}
+use Rattle.memory.proofs.Runs.{slot_by_form, slot_ruled, slot_fine, slot_taken}
+use Rattle.session.proofs.Refused.{case_told, slot_some, take_room, take_told}
 use Rattle.session.proofs.calls.check_amend.Goals as goal
 
-pub returns-in-Refused : goal.returns-in-Refused
+pub returns-in_err-check_form : goal.returns-in_err-check_form
 unfolding amend_rules
-returns-in-Refused c = sym (ap checked (part_refused _ _ c.check_slot-found.ensures c.in-Refused.is))
+returns-in_err-check_form c =
+    passed_on c.from_residual.result c.from_residual.ensures.1
+    ∙ sym (ap checked (ruling_join_refused _ _ _ (slot_by_form _ _ _ (told_refused _ c.check_form.ensures c.in_err-check_form.was))))
 
-pub head_of-requires : goal.head_of-requires
-head_of-requires c = (rules_slot _ _ _ (told_fine _ c.check_slot-found.ensures c.in_default.is)).0.session_room
+pub invariant_of-held : goal.invariant_of-held
+invariant_of-held c = record { known = formed_held _ _ (rules_formed _ _ (told_fine _ c.check_form.ensures c.in_ok-check_form.was)) }
 
-pub returns-in-Refused-fault : goal.returns-in-Refused-fault
+pub returns-in_err-run : goal.returns-in_err-run
 unfolding amend_rules
-returns-in-Refused-fault c = sym (ap checked (part_fine _ _ c.check_slot-found.ensures c.in_default.is ∙ part_refused _ _ (case_told c.args.session.now c.head_of.ensures _ _ c.check_case-fault.ensures) c.in-Refused-fault.is))
+returns-in_err-run c =
+    passed_on c.from_residual-in_err-run.result c.from_residual-in_err-run.ensures.1
+    ∙ sym (ap checked (ruling_join_refused _ _ _ (slot_ruled c.args.session.now c.args.tallies.now c.args.place (told_fine _ c.check_form.ensures c.in_ok-check_form.was) _ c.slot.ensures c.in_err-run.was)))
 
-pub can_take-requires-clause-formed : goal.can_take-requires-clause-formed
-can_take-requires-clause-formed c = (rules_slot _ _ _ (told_fine _ c.check_slot-found.ensures c.in_default.is)).0
+pub can_take-requires-clause-room : goal.can_take-requires-clause-room
+can_take-requires-clause-room c =
+    take_room c.args.session.now _ c.args.place _ (slot_taken c.args.session.now c.args.place _ c.slot.ensures c.in_ok-run.was).1 (rules_formed _ _ (told_fine _ c.check_form.ensures c.in_ok-check_form.was))
 
-pub can_take-requires-clause-place_value : goal.can_take-requires-clause-place_value
-can_take-requires-clause-place_value c = (rules_slot _ _ _ (told_fine _ c.check_slot-found.ensures c.in_default.is)).1
+pub can_take-requires-clause-some : goal.can_take-requires-clause-some
+can_take-requires-clause-some c = slot_some _ _ _ (rules_formed _ _ (told_fine _ c.check_form.ensures c.in_ok-check_form.was), (slot_taken c.args.session.now c.args.place _ c.slot.ensures c.in_ok-run.was).0)
+
+pub returns-in_err-check_case : goal.returns-in_err-check_case
+unfolding amend_rules
+returns-in_err-check_case c =
+    passed_on c.from_residual-in_err-check_case.result c.from_residual-in_err-check_case.ensures.1
+    ∙ sym (ap checked (ruling_join_fine _ _ (slot_fine c.args.session.now c.args.tallies.now c.args.place (told_fine _ c.check_form.ensures c.in_ok-check_form.was) _ c.slot.ensures c.in_ok-run.was) ∙ part_refused _ _ (case_told c.args.session.now (ap (λ (b : Bench). b.head) (slot_taken c.args.session.now c.args.place _ c.slot.ensures c.in_ok-run.was).1) _ _ c.check_case.ensures) c.in_err-check_case.was))
 
 pub returns-then-not-can_take : goal.returns-then-not-can_take
 unfolding amend_rules
-returns-then-not-can_take c = sym (ap checked (part_fine _ _ c.check_slot-found.ensures c.in_default.is ∙ part_fine _ _ (case_told c.args.session.now c.head_of.ensures _ _ c.check_case-fault.ensures) c.in_default-fault.is ∙ ruling_here _ _ (ap not (lacks c.can_take.ensures c.if-not-can_take.true))))
+returns-then-not-can_take c =
+    sym
+    (ap checked
+    (ruling_join_fine _ _ (slot_fine c.args.session.now c.args.tallies.now c.args.place (told_fine _ c.check_form.ensures c.in_ok-check_form.was) _ c.slot.ensures c.in_ok-run.was)
+    ∙ part_fine _ _ (case_told c.args.session.now (ap (λ (b : Bench). b.head) (slot_taken c.args.session.now c.args.place _ c.slot.ensures c.in_ok-run.was).1) _ _ c.check_case.ensures) c.in_ok-check_case.was
+    ∙ ruling_here _ _ (ap not (lacks (take_told c.args.session.now c.args.tallies.now c.args.place _ (slot_taken c.args.session.now c.args.place _ c.slot.ensures c.in_ok-run.was).1 c.can_take.ensures) c.if-not-can_take.true))))
 
 pub returns : goal.returns
 unfolding amend_rules
-returns c = sym (ap checked (part_fine _ _ c.check_slot-found.ensures c.in_default.is ∙ part_fine _ _ (case_told c.args.session.now c.head_of.ensures _ _ c.check_case-fault.ensures) c.in_default-fault.is ∙ ruling_past _ _ (ap not (holds c.can_take.ensures c.if-not-can_take.false)) ∙ ruling_end))
+returns c =
+    sym
+    (ap checked
+    (ruling_join_fine _ _ (slot_fine c.args.session.now c.args.tallies.now c.args.place (told_fine _ c.check_form.ensures c.in_ok-check_form.was) _ c.slot.ensures c.in_ok-run.was)
+    ∙ part_fine _ _ (case_told c.args.session.now (ap (λ (b : Bench). b.head) (slot_taken c.args.session.now c.args.place _ c.slot.ensures c.in_ok-run.was).1) _ _ c.check_case.ensures) c.in_ok-check_case.was
+    ∙ ruling_past _ _ (ap not (holds (take_told c.args.session.now c.args.tallies.now c.args.place _ (slot_taken c.args.session.now c.args.place _ c.slot.ensures c.in_ok-run.was).1 c.can_take.ensures) c.if-not-can_take.false))
+    ∙ ruling_end))

@@ -1,22 +1,10 @@
-use mathlib.Core.Path.{sym}
-use borrow.Author.Count.{below_more}
-use native.Mathlib.Omega.{arith}
-use Rattle.shapes.proofs.First.{all_from, all_fails}
-use Rattle.shapes.proofs.Tests.{lacks, holds}
-use Rattle.tallies.specs.Tallies.{can_lower}
-use Rattle.tallies.proofs.Tallying.{count_told, miss_told, lose_told}
+-- `tallies::tally::can_lower` meets its contract: the closure tests a tally.
+use Rattle.std.proofs.Common.{rules, tests, ◌∙◌}
+use Rattle.shapes.proofs.Ranges.{all_range}
+use Rattle.tallies.proofs.Tallying.{can_lose, can_told}
 use Rattle.tallies.proofs.tally.can_lower.Goals as goal
 
-pub returns-then-not-is_fair : goal.returns-then-not-is_fair
-unfolding can_lower
-returns-then-not-is_fair c = sym
-    (all_fails _ _ c.loop-number.number
-    (omega (arith, count_told c.args.session.now _ c.head_of-head.ensures _ c.numbers-count.ensures.value))
-    (lacks (lose_told _ _ c.args.tallies.now c.args.left _ _ (miss_told _ _ c.head_of-head.ensures _ _ _ c.missed-miss.ensures.value) c.is_fair.ensures) c.if-not-is_fair.true))
-
-pub loop-number-preserved : goal.loop-number-preserved
-loop-number-preserved c = (omega arith, below_more _ _ c.loop-number.invariant.1 (holds (lose_told _ _ c.args.tallies.now c.args.left _ _ (miss_told _ _ c.head_of-head.ensures _ _ _ c.missed-miss.ensures.value) c.is_fair.ensures) c.if-not-is_fair.false))
-
 pub returns : goal.returns
-unfolding can_lower
-returns c = sym (all_from _ _ λ f l. c.loop-number.invariant.1 f (omega (arith, count_told c.args.session.now _ c.head_of-head.ensures _ c.numbers-count.ensures.value)))
+returns c =
+    all_range (can_lose c.of-walk.result.run c.args.tallies.now c.args.left) _ _ _ _ c.all.ensures.ran (λ x b q k. search (rules, tests))
+    ∙ can_told _ _ _ _ _ c.of-walk.ensures c.numbers.ensures.value

@@ -50,7 +50,7 @@ a_symptom M c s e some =
     (bad, rw e (first_inside M c bad))
 
 -- the first inputs of a case are a head's
-input_in : (h : Head) (is ys : List ℕ) → CaseIn h is ys → (n t : ℕ) → t < min n (length is) → get_or (take n is) t 0 < h.inputs
+pub input_in : (h : Head) (is ys : List ℕ) → CaseIn h is ys → (n t : ℕ) → t < min n (length is) → get_or (take n is) t 0 < h.inputs
 input_in h is ys k n t below = rw (get_or-take n is t 0 (omega arith)) (case_step h is ys k t (omega arith))
 
 pub inputs_in : (h : Head) (is ys : List ℕ) → CaseIn h is ys → (n : ℕ) → InputsIn h (take n is)

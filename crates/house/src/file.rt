@@ -13,6 +13,9 @@ pub const VERSION: usize = 1;
 // Where the rest begins.
 pub const REST: usize = 3;
 
+// What the higher of two bytes counts.
+pub const HIGHER: usize = 256;
+
 // The refusal of a file that is no house file of a version, whatever it holds.
 #[tactic(auto, unfolding(crate::specs::File::file_rules, shapes::specs::Refusals::ruling))]
 pub fn check_file(file: &[u8], version: usize) -> Result<(), Refusal>

@@ -50,19 +50,23 @@ pub fn first_bad(head: Head, cells: &[u8]) -> Option<usize>
 }
 
 // The completed machine's move at a cell of a state.
+#[tactic(auto, unfolding(crate::specs::Machine::completed, crate::specs::Cell::undefined))]
 pub fn completed_move(cells: &[u8], state: usize, cell: usize) -> Move
     requires { 2 * cell + 1 < length cells.now }
     ensures { result ≡ completed cells.now state cell }
 {
-    if is_undefined(cells, cell) {
+    let next = cells[2 * cell];
+    let output = cells[2 * cell + 1];
+    // Both tests at once: a replay comes here at every step.
+    if (next == UNDEFINED) & (output == UNDEFINED) {
         return Move {
             next: state,
             output: NULL_OUTPUT,
         };
     }
     Move {
-        next: byte(cells, 2 * cell),
-        output: byte(cells, 2 * cell + 1),
+        next: next.into(),
+        output: output.into(),
     }
 }
 

@@ -14,6 +14,7 @@ ghost use Rattle.machine.specs.Replay.{fresh, stepped};
 use crate::cell::{Move, cell_of, completed_move};
 use crate::fault::{Change, Fault};
 use crate::table::Table;
+use shapes::byte;
 
 // The state in which a case begins.
 const INITIAL: usize = 0;
@@ -110,9 +111,11 @@ impl Run<'_> {
         ensures { result ≡ symptoms_of (table_machine self.now.table) self.now.inputs.now self.now.outputs.now }
     {
         let mut replay = Replay::start();
-        for (input, observed) in self.inputs.iter().zip(self.outputs) {
-            let to = self.table.specified_move(replay.state, usize::from(*input));
-            replay = replay.step(to, usize::from(*observed));
+        for step in 0..self.inputs.len() {
+            let to = self
+                .table
+                .specified_move(replay.state, byte(self.inputs, step));
+            replay = replay.step(to, byte(self.outputs, step));
         }
         Symptoms {
             count: replay.symptoms,
@@ -126,9 +129,9 @@ impl Run<'_> {
         ensures { result ≡ reproduces (under (table_machine self.now.table) change) self.now.inputs.now self.now.outputs.now }
     {
         let mut replay = Replay::start();
-        for (input, output) in self.inputs.iter().zip(self.outputs) {
-            let to = changed_move(&self.table, change, replay.state, usize::from(*input));
-            replay = replay.step(to, usize::from(*output));
+        for done in 0..self.inputs.len() {
+            let to = changed_move(&self.table, change, replay.state, byte(self.inputs, done));
+            replay = replay.step(to, byte(self.outputs, done));
             if replay.symptoms != 0 {
                 return false;
             }

@@ -23,9 +23,9 @@ use Rattle.memory.specs.Form.{good_table, good_place, Formed, room_rules, form_r
 use Rattle.memory.specs.declared.layout.Place.{Place}
 use Rattle.memory.specs.Loops.{read_place}
 use Rattle.memory.proofs.Checks.{room_known, place_read, free_here, held_here}
-use Rattle.memory.proofs.Formed.{table_good, place_few, place_case}
+use Rattle.memory.proofs.Formed.{table_good, place_few, place_case, formed_table, formed_place}
 use Rattle.memory.specs.Held.{bench_at}
-use Rattle.memory.proofs.Held.{slot_inside}
+use Rattle.memory.proofs.Held.{slot_held, slot_inside}
 
 module _ (v : Ruling Refusal) {x : Result (Unit {0}) Refusal} (e : x ≡ checked v) where
   -- what a check answered its rules say: nothing,
@@ -111,9 +111,13 @@ module _ (s : List ℕ) (p : ℕ) {here : Place} (e : here ≡ read_place s p) w
 
 -- a place that holds a case, in a well-formed session
 module _ (s t : List ℕ) (p : ℕ) (k : Formed s t × (is_slot s p ≡ true)) where
-  -- it is one of the 64, and there is room for them
+  -- it is one of the 64, and there is room for them,
   pub slot_room : (session_size ≤ length s) × (p < places_most)
   slot_room = (k.0.session_room, slot_inside s p k.1)
+
+  -- and its case can be run against the session's table
+  pub slot_runs : {h : Head} {c : Case} → h ≡ head_of s → c ≡ case_of s p → TableIn h (cells_of s) × CaseIn h c.inputs c.outputs
+  slot_runs = case_runs s p slot_room.0 (formed_table s t k.0) (formed_place s t k.0 p slot_room.1) (slot_held s p k.1)
 
 module _ (l m : List (Rule Refusal)) {x : Result (Unit {0}) Refusal} (e : x ≡ checked (ruling l)) where
   -- where the check of the first rules finds nothing wrong the other rules decide,

@@ -13,6 +13,7 @@ use machine::head::Head;
 use machine::replay::Symptoms;
 use memory::form::check_form;
 use memory::layout::Place;
+use memory::slot::check_slot;
 use memory::view::Held;
 use reading::list::is_some_failing;
 
@@ -20,8 +21,8 @@ use reading::list::is_some_failing;
 pub fn symptoms(session: &[u8], tallies: &[u16], place: usize) -> Result<Symptoms, Refusal>
     ensures { result ≡ symptoms_call session.now tallies.now place }
 {
-    check_form(session, tallies)?;
-    let run = Held { bytes: session }.slot(place)?;
+    check_slot(session, tallies, place)?;
+    let run = Held { bytes: session }.run_at(place).unwrap();
     Ok(run.symptoms())
 }
 
@@ -34,8 +35,8 @@ pub fn conflict_set(
 ) -> Result<usize, Refusal>
     ensures { wrote result out.new ≡ conflict_call session.now tallies.now place out.old }
 {
-    check_form(session, tallies)?;
-    let run = Held { bytes: session }.slot(place)?;
+    check_slot(session, tallies, place)?;
+    let run = Held { bytes: session }.run_at(place).unwrap();
     if out.len() < Head::CELLS {
         return Err(Refusal::Short(0));
     }

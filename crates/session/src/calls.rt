@@ -21,6 +21,7 @@ use machine::replay::Run;
 use machine::table::Table;
 use memory::form::{check_form, check_room};
 use memory::layout::{Place, count_held, free_place, head_of};
+use memory::slot::check_slot;
 use memory::store::{clear_place, clear_tallies, store_case, store_table};
 use memory::view::Held;
 use tallies::tally::{can_lower, lower, raise};
@@ -125,9 +126,9 @@ fn take(session: &[u8], tallies: &mut [u16], place: usize)
 fn check_withdraw(session: &[u8], tallies: &[u16], place: usize) -> Result<(), Refusal>
     ensures { result ≡ checked (ruling (withdraw_rules session.now tallies.now place)) }
 {
-    check_form(session, tallies)?;
+    check_slot(session, tallies, place)?;
     let held = Held { bytes: session };
-    let run = held.slot(place)?;
+    let run = held.run_at(place).unwrap();
     if !can_take(&held, tallies, &run) {
         return Err(Refusal::Damaged);
     }
@@ -154,9 +155,9 @@ fn check_amend(
 ) -> Result<(), Refusal>
     ensures { result ≡ checked (ruling (amend_rules session.now tallies.now place (offered inputs.now outputs.now))) }
 {
-    check_form(session, tallies)?;
+    check_slot(session, tallies, place)?;
     let held = Held { bytes: session };
-    let run = held.slot(place)?;
+    let run = held.run_at(place).unwrap();
     check_case(run.table.head, About { position: 0 }, inputs, outputs)?;
     if !can_take(&held, tallies, &run) {
         return Err(Refusal::Damaged);

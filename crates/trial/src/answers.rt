@@ -11,7 +11,8 @@ use std::io::Write;
 // Puts each entry.
 pub fn put_each<T: Display>(line: &mut impl Write, entries: &[T]) -> io::Result<()> {
     for entry in entries {
-        write!(line, " {entry}")?;
+        line.write_all(b" ")?;
+        write!(line, "{entry}")?;
     }
     Ok(())
 }

@@ -28,14 +28,29 @@ impl<'a, P> Line<'a, P> {
 
 impl<P: Print> Write for Line<'_, P> {
     fn write(&mut self, bytes: &[u8]) -> io::Result<usize> {
-        if self.filled == ROOM {
-            self.flush()?;
+        self.write_all(bytes)?;
+        Ok(bytes.len())
+    }
+
+    // What fits is put at once, which words and numbers nearly always do.
+    fn write_all(&mut self, bytes: &[u8]) -> io::Result<()> {
+        if bytes.len() <= ROOM - self.filled {
+            let end = self.filled + bytes.len();
+            self.buffer[self.filled..end].copy_from_slice(bytes);
+            self.filled = end;
+            return Ok(());
         }
-        let count = bytes.len().min(ROOM - self.filled);
-        let end = self.filled + count;
-        self.buffer[self.filled..end].copy_from_slice(&bytes[..count]);
+        let mut end = self.filled;
+        for &byte in bytes {
+            if end == ROOM {
+                self.rt.write_all(&self.buffer)?;
+                end = 0;
+            }
+            self.buffer[end] = byte;
+            end += 1;
+        }
         self.filled = end;
-        Ok(count)
+        Ok(())
     }
 
     fn flush(&mut self) -> io::Result<()> {

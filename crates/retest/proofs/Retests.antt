@@ -4,7 +4,7 @@
 use Prim.Native.Nat.{ℕ, zero, suc, ◌+◌, ◌≤◌, ◌<◌}
 use mathlib.Core.Path.{◌≡◌, refl, sym, ap, ◌∙◌}
 use mathlib.Core.Bool.{Bool, true, false, cond, ◌&&◌, ◌||◌}
-use mathlib.Core.Logic.{◌↔◌}
+use mathlib.Core.Logic.{◌↔◌, ◌⊎◌, inl, inr}
 use mathlib.Core.List.{List, [], ◌∷◌, ◌++◌}
 use borrow.Author.Tests.{eq-eqb, eqb-true, le-leb, lt-leb, leb-false}
 use native.Mathlib.Nat.{zero-add, add-zero}
@@ -12,9 +12,10 @@ use native.Mathlib.Omega.{arith}
 use lib.Dec.{eqb, leb}
 use lib.ListN.{length, get_or}
 use Rattle.std.specs.Prelude.{Option, Some, None, Result, Ok, Err}
-use Rattle.std.specs.Option.{is_some, option_map, unwrap_or}
+use Rattle.std.specs.Option.{is_some, option_map, unwrap_or, ok_or}
 use Rattle.std.specs.List.{find, slice_get}
 use Rattle.std.specs.Cmp.Lexicographic.{pointwise}
+use Rattle.std.proofs.lemmas.Bool.{cases_lt}
 use Rattle.shapes.specs.Keep.{some}
 use Rattle.shapes.specs.Refusals.{when, Ruling, ruling, fine, refused}
 use Rattle.shapes.proofs.Tests.{and_true, or_false}
@@ -132,24 +133,41 @@ picked_told s t a b position o k z eo ek ez =
     lent None = refl
 
 -- the case at a position of a record, as the code takes it
-module _ (p : ℕ × ℕ) (file : List ℕ) (position : ℕ) (h : position < count_of (count_in file)) (o : Option Case_lent.Case)
-    (eo : option_map lent_part o ≡ slice_get (parts_in p file) position) where
-  -- is the part at its place
-  own_got : option_map lent_part o ≡ Some (part_at p file (place_of file position))
+module _ (p : ℕ × ℕ) (file : List ℕ) (position : ℕ) (o : Option Case_lent.Case) (eo : option_map lent_part o ≡ slice_get (parts_in p file) position)
+    (x : Result Case_lent.Case Refusal) (ex : x ≡ ok_or o Slot) where
+  -- SLOT where there is none
+  pub own_missing : (r : Refusal) → x ≡ Err r → (r ≡ Slot) × (count_of (count_in file) ≤ position)
   unfolding parts_in place_of
-  own_got = eo ∙ part_got p file _ 0 position h ∙ rw zero-add
-
-  -- there is one,
-  pub own_some : is_some o ≡ true
-  own_some = go o own_got
+  own_missing r e = go o (cases_lt position (count_of (count_in file))) (sym ex ∙ e) eo
     where
-      go : (o : Option Case_lent.Case) → option_map lent_part o ≡ Some (part_at p file (place_of file position)) → is_some o ≡ true
-      go (Some k) e = refl
-      go None e = cc
+      go : (o : Option Case_lent.Case) → (position < count_of (count_in file)) ⊎ (count_of (count_in file) ≤ position) → ok_or o Slot ≡ Err r
+          → option_map lent_part o ≡ slice_get (parts_from p file (count_of (count_in file)) (place_of file 0)) position
+          → (r ≡ Slot) × (count_of (count_in file) ≤ position)
+      go (Some k) h er eg = cc
+      go None (inl h) er eg = let n = eg ∙ part_got p file _ 0 position h in cc
+      go None (inr h) er eg = (cc, h)
 
-  -- and it is that part
-  pub own_there : (k : Case_lent.Case) → o ≡ Some k → lent_part k ≡ part_at p file (place_of file position)
-  own_there k e = let n : Some (lent_part k) ≡ Some (part_at p file (place_of file position)) = sym (ap (option_map lent_part) e) ∙ own_got in cc
+  -- else the part at its place
+  pub own_there : (k : Case_lent.Case) → x ≡ Ok k → (position < count_of (count_in file)) × (lent_part k ≡ part_at p file (place_of file position))
+  unfolding parts_in place_of
+  own_there k e = go o (cases_lt position (count_of (count_in file))) (sym ex ∙ e) eo
+    where
+      go : (o : Option Case_lent.Case) → (position < count_of (count_in file)) ⊎ (count_of (count_in file) ≤ position) → ok_or o Slot ≡ Ok k
+          → option_map lent_part o ≡ slice_get (parts_from p file (count_of (count_in file)) (place_of file 0)) position
+          → (position < count_of (count_in file)) × (lent_part k ≡ part_at p file (place_of file position))
+      go None h er eg = cc
+      go (Some w) (inl h) er eg =
+          let same : w ≡ k = cc in
+          let n : Some (lent_part w) ≡ Some (part_at p file (place_of file position)) = eg ∙ part_got p file _ 0 position h ∙ rw zero-add in
+          let at : lent_part w ≡ part_at p file (place_of file position) = cc in
+          (h, ap lent_part (sym same) ∙ at)
+      go (Some w) (inr h) er eg = let n = eg ∙ part_lacks p file _ _ position h in cc
+
+-- so there is one at each position that has a case
+pub own_some : (p : ℕ × ℕ) (file : List ℕ) (position : ℕ) (o : Option Case_lent.Case) → option_map lent_part o ≡ slice_get (parts_in p file) position
+    → position < count_of (count_in file) → is_some o ≡ true
+own_some p file position (Some k) eo h = refl
+own_some p file position None eo h = let m = own_missing p file position None eo (Err Slot) refl Slot refl in absurd (omega (arith, m.1, h))
 
 -- a record that its rules do not refuse is taken, with the count of its cases
 pub record_taken : (file : List ℕ) {n : ℕ} → ruling (record_rules file) ≡ fine → n ≡ count_of (count_in file) → record_read file ≡ Ok n

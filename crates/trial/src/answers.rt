@@ -11,6 +11,7 @@ use std::io::Write;
 // Puts each entry.
 pub fn put_each<T: Display>(line: &mut impl Write, entries: &[T]) -> io::Result<()> {
     for entry in entries {
+        // Put apart, the blank goes by no formatter: lists and cases are long.
         line.write_all(b" ")?;
         write!(line, "{entry}")?;
     }

@@ -40,16 +40,16 @@ impl<P: Print> Write for Line<'_, P> {
             self.filled = end;
             return Ok(());
         }
-        let mut end = self.filled;
+        let mut place = self.filled;
         for &byte in bytes {
-            if end == ROOM {
+            if place == ROOM {
                 self.rt.write_all(&self.buffer)?;
-                end = 0;
+                place = 0;
             }
-            self.buffer[end] = byte;
-            end += 1;
+            self.buffer[place] = byte;
+            place += 1;
         }
-        self.filled = end;
+        self.filled = place;
         Ok(())
     }
 
